@@ -1,0 +1,5 @@
+pub mod Encoded
+pub mod Exact
+pub mod Fields
+pub mod Paths
+pub mod Rows

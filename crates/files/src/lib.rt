@@ -1,0 +1,5 @@
+// Plan files: what they hold, how they are read, and the rules that paths keep.
+pub mod layout;
+pub mod opening;
+pub mod plan;
+pub mod rules;
