@@ -1,5 +1,4 @@
 // Plan files: what they hold, how they are read, and the rules that paths keep.
 pub mod layout;
-pub mod opening;
 pub mod plan;
 pub mod rules;

@@ -1,5 +1,14 @@
-// Reads plan files from standard input, each in a line of hexadecimal digits, and prints what the register prints of each. A line that begins with # is a heading, and is printed as it is.
-use files::opening::read_plan;
+// Reads cases from standard input, one in a line, and prints what comes of each:
+//   # text     a heading, printed as it is
+//   HEX        a plan file: what the register prints of it, and the order file of its own orders
+//   > HEX      an order file for the last plan that was taken: who goes first at each meeting, or that it is none
+//   = N        the last plan's order file, written into a buffer of N bytes that held 170 (hexadecimal aa) throughout
+use meetings::meet::First;
+use orders::read::read_orders;
+use orders::waits::plan_firsts;
+use orders::write::write_orders;
+use plans::plan::Plan;
+use plans::plan::opening::read_plan;
 use report::answer_text;
 use std::alloc::AllocError;
 use std::alloc::Global;
@@ -26,23 +35,96 @@ fn unhex(heap: Global, digits: &[u8]) -> Result<Vec<u8>, AllocError> {
     Ok(bytes)
 }
 
-fn print_case(rt: &LibcRuntime, line: &str) -> Result<(), AnyError> {
-    let heap = rt.alloc();
-    if line.starts_with('#') {
-        println!(rt, "{line}")?;
-        return Ok(());
+fn print_hex(rt: &LibcRuntime, bytes: &[u8]) -> Result<(), AnyError> {
+    for b in bytes {
+        let b = *b;
+        print!(rt, "{b:02x}")?;
     }
-    let bytes = unhex(heap, line.as_bytes())?;
-    let answer = read_plan(heap, bytes.as_slice());
-    let text = answer_text(heap, &answer)?;
-    print!(rt, "{text}")?;
+    println!(rt, "")?;
     Ok(())
 }
 
+// The order file of the plan's own orders, and all of the buffer that it is written into.
+fn print_written(rt: &LibcRuntime, plan: &Plan, out: &mut [u8]) -> Result<(), AnyError> {
+    let firsts = plan_firsts(rt.alloc(), plan)?;
+    match write_orders(plan, firsts.as_slice(), out) {
+        Ok(len) => print!(rt, "{len} bytes ")?,
+        Err(_) => print!(rt, "no 16 ")?,
+    }
+    print_hex(rt, out)
+}
+
+fn print_orders(rt: &LibcRuntime, plan: &Plan, size: usize) -> Result<(), AnyError> {
+    let mut buffer = [170u8; 50000];
+    if size > buffer.len() {
+        return Ok(());
+    }
+    print_written(rt, plan, &mut buffer[0..size])
+}
+
+fn print_firsts(rt: &LibcRuntime, plan: &Plan, digits: &[u8]) -> Result<(), AnyError> {
+    let heap = rt.alloc();
+    let bytes = unhex(heap, digits)?;
+    match read_orders(heap, plan, bytes.as_slice()) {
+        Ok(firsts) => {
+            print!(rt, "first")?;
+            for f in firsts {
+                match f {
+                    First::Lower => print!(rt, " lower")?,
+                    First::Other => print!(rt, " other")?,
+                }
+            }
+            println!(rt, "")?;
+        }
+        Err(_) => println!(rt, "no order file of the plan")?,
+    }
+    Ok(())
+}
+
+// A plan file; answers the plan, if it is taken.
+fn print_plan(rt: &LibcRuntime, digits: &[u8]) -> Result<Option<Plan>, AnyError> {
+    let heap = rt.alloc();
+    let bytes = unhex(heap, digits)?;
+    let answer = read_plan(heap, bytes.as_slice());
+    let text = answer_text(heap, &answer)?;
+    print!(rt, "{text}")?;
+    match answer {
+        Ok(plan) => Ok(Some(plan)),
+        Err(_) => Ok(None),
+    }
+}
+
+fn number(digits: &[u8]) -> usize {
+    let mut n: usize = 0;
+    for d in digits {
+        if *d >= b'0' && *d <= b'9' {
+            n = n.saturating_mul(10).saturating_add(usize::from(*d - b'0'));
+        }
+    }
+    n
+}
+
+fn on_plan(rt: &LibcRuntime, plan: &Plan, line: &[u8]) -> Result<(), AnyError> {
+    match line {
+        [b'>', _, rest @ ..] => print_firsts(rt, plan, rest),
+        [b'=', rest @ ..] => print_orders(rt, plan, number(rest)),
+        _ => Ok(()),
+    }
+}
+
 fn work(rt: &LibcRuntime) -> Result<(), AnyError> {
+    let mut last: Option<Plan> = None;
     for line in rt.lines(rt.alloc()) {
         let line = line?;
-        print_case(rt, line.as_str())?;
+        if line.as_str().starts_with('#') {
+            println!(rt, "{line}")?;
+        } else if line.as_str().starts_with('>') || line.as_str().starts_with('=') {
+            if let Some(plan) = &last {
+                on_plan(rt, plan, line.as_bytes())?;
+            }
+        } else {
+            last = print_plan(rt, line.as_bytes())?;
+        }
     }
     Ok(())
 }
