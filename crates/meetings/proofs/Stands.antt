@@ -23,6 +23,7 @@ use Rattle.meetings.specs.declared.stays.Stay.{Stay}
 use Rattle.meetings.specs.Laws.{StopOf, stopOf, stayOf, GoesFirst, Meets, Earlier, Precedes, Ascending, MeetingsLaw}
 use Rattle.meetings.specs.Meetings.{leftBefore, meets, meetingOf, meetWith, meetingsOf, meetings, stayIn}
 use Rattle.meetings.specs.Stays.{stayAt, pathStays, stays}
+use Rattle.meetings.proofs.Counts.{all-both}
 use Rattle.meetings.proofs.Pairs.{nobody, meet-yes, meet-no}
 use Rattle.meetings.proofs.Places.{upto, upto-rises, upto-at, upto-find, upto-order}
 
@@ -122,10 +123,6 @@ module _ (ps : List (List Stop)) where
   row-all : (P : Meeting → Type 0) (x : Stay) (ys : List Stay) → All (λ y. meets x y ≡ true → P (meetingOf x y)) ys → All P (joined (meetWith x) ys)
   row-all P x [] h = tt
   row-all P x (y ∷ ys) h = all-append P (meetWith x y) (joined (meetWith x) ys) (with-all P x y (h .0)) (row-all P x ys (h .1))
-
-  all-both : {X : Type 0} (P Q R : X → Type 0) → ((x : X) → P x → Q x → R x) → (xs : List X) → All P xs → All Q xs → All R xs
-  all-both P Q R h [] a b = tt
-  all-both P Q R h (x ∷ xs) a b = (h x (a .0) (b .0), all-both P Q R h xs (a .1) (b .1))
 
   rows-sound : (xs : List Stay) → All Good xs → Ascending Before xs → All (Meets ps) (meetingsOf xs)
   rows-sound [] g a = tt

@@ -10,6 +10,7 @@ use Rattle.std.specs.declared.alloc.Global.{Global}
 use Rattle.std.specs.declared.result.Result.{Result}
 use Rattle.std.specs.declared.result.Result.the-variants.{Ok, Err}
 use Rattle.std.specs.declared.vec.Vec.{Vec}
+use Rattle.std.specs.shelf.Lists.{Has}
 use Rattle.std.proofs.shelf.Tests.{both-ways}
 use Rattle.files.specs.declared.layout.FileFault.the-variants.{Torn}
 use Rattle.files.specs.declared.layout.FileFault.the-variants as file
@@ -30,12 +31,13 @@ use Rattle.meetings.specs.Collisions.{NoCollision}
 use Rattle.meetings.specs.Meetings.{meetings, NoClash, FirstClash}
 use Rattle.meetings.specs.Settled.{Settled}
 use Rattle.meetings.specs.Stays.{stays}
-use Rattle.meetings.proofs.Clashing.{no-collision, no-clash}
+use Rattle.meetings.proofs.Clashing.{no-collision, no-clash, first-law}
+use Rattle.meetings.proofs.Stands.{meetings-law}
 use Rattle.plans.specs.declared.plan.Plan.{Plan}
 use Rattle.plans.specs.declared.plan.opening.PlanFault.{PlanFault}
 use Rattle.plans.specs.declared.plan.opening.PlanFault.the-variants.{File, Path, Meetings}
 use Rattle.plans.specs.Kept.{Kept}
-use Rattle.plans.specs.Opening.{planLayout, Ruled, Opens, Takable, Takes, OpensExactly}
+use Rattle.plans.specs.Opening.{planLayout, Ruled, Opens, Takable, Takes, OpensExactly, FirstsStand}
 
 pub opened :
     (bs : List ℕ) (l : Layout) (ms : List Meeting) → ReadsExactly bs → layout bs ≡ Ok l → PathsKeep (l .paths)
@@ -96,3 +98,12 @@ module _ (bs : List ℕ) (exact : ReadsExactly bs) where
 
   pub opens-exactly : (r : Result Plan PlanFault) → Opens r bs → OpensExactly r bs
   opens-exactly r o = (λ p e. takable p (subst (λ (q : Result Plan PlanFault). Opens q bs) e o), takes r o)
+
+pub firsts-stand : (bs : List ℕ) (r : Result Plan PlanFault) → Opens r bs → FirstsStand r
+firsts-stand bs (Ok p) o =
+    let ps = planLayout p .paths in
+    let k = o .1 in
+    λ m h.
+    let there = subst (λ (l : List Meeting). Has l m) (k .listed) h in
+    (meetings-law ps .sound m there, first-law ps (k .rules) (no-clash ps (k .rules) (k .clear)) m there)
+firsts-stand bs (Err e) o = tt

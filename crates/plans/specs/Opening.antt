@@ -4,6 +4,7 @@ use mathlib.Core.List.{List, [], _∷_}
 use mathlib.Core.Path.{_≡_}
 use lib.ListN.{length}
 use Rattle.std.specs.Of.Vec.{vec-items}
+use Rattle.std.specs.shelf.Lists.{Has}
 use Rattle.std.specs.declared.option.Option.{Option}
 use Rattle.std.specs.declared.option.Option.the-variants.{Some, None}
 use Rattle.std.specs.declared.result.Result.{Result}
@@ -14,8 +15,10 @@ use Rattle.files.specs.Bytes.{planBytes, Limits}
 use Rattle.files.specs.Layout.{Layout, layout}
 use Rattle.files.specs.Rules.{PathsKeep, FirstOffence, offender, offence}
 use Rattle.files.specs.Views.{pathsOf}
+use Rattle.meetings.specs.declared.meet.Meeting.{Meeting}
 use Rattle.meetings.specs.declared.meet.MeetingFault.the-variants as meeting
 use Rattle.meetings.specs.Collisions.{NoCollision}
+use Rattle.meetings.specs.Laws.{Meets, OneFirst}
 use Rattle.meetings.specs.Meetings.{meetings, FirstClash}
 use Rattle.meetings.specs.Stays.{stays}
 use Rattle.plans.specs.declared.plan.Plan.{Plan}
@@ -72,3 +75,9 @@ Takes (Err e) l = refusal e ≡ None
 -- A plan is taken exactly when the bytes are its file, the limits and the rules are kept, and no two paths collide.
 abbrev pub OpensExactly : Result Plan PlanFault → List ℕ → Type 0
 OpensExactly r bs = ((p : Plan) → r ≡ Ok p → Takable bs (planLayout p)) × ((l : Layout) → Takable bs l → Takes r l)
+
+-- At every meeting of a plan that is taken exactly one shuttle leaves strictly before the other enters, and the stop that the other waits for exists.
+abbrev pub FirstsStand : Result Plan PlanFault → Type 0
+FirstsStand (Ok p) =
+    (m : Meeting) → Has (vec-items (p .meetings)) m → Meets (planLayout p .paths) m × OneFirst (planLayout p .paths) m (m .first)
+FirstsStand (Err e) = Unit {0}

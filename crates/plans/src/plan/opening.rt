@@ -3,7 +3,7 @@ ghost use mathlib.Core.Path.{_≡_};
 ghost use Rattle.std.specs.Of.Vec.{vec-items};
 ghost use Rattle.files.specs.Views.{pathsOf};
 ghost use Rattle.plans.specs.declared.plan.opening.PlanFault.the-variants.{File, Path, Meetings};
-ghost use Rattle.plans.specs.Opening.{Opens, OpensExactly};
+ghost use Rattle.plans.specs.Opening.{Opens, OpensExactly, FirstsStand};
 use super::Plan;
 use files::layout::FileFault;
 use files::layout::read_file;
@@ -85,6 +85,7 @@ fn open_plan(heap: Global, bytes: &[u8]) -> Result<Plan, PlanFault>
 pub fn read_plan(heap: Global, bytes: &[u8]) -> Result<Plan, PlanFault>
     ensures value { λ r. ⌜ Opens r (now (bytes .entry)) ⌝ }
     ensures exact { λ r. ⌜ OpensExactly r (now (bytes .entry)) ⌝ }
+    ensures firsts { λ r. ⌜ FirstsStand r ⌝ }
 {
     open_plan(heap, bytes)
 }

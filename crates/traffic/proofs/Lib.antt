@@ -1,0 +1,7 @@
+pub mod Agree
+pub mod Later
+pub mod Planned
+pub mod Progress
+pub mod Ranking
+pub mod Safe
+pub mod Step
