@@ -10,6 +10,9 @@ use std::alloc::AllocError;
 use std::alloc::Global;
 use std::alloc::Refused;
 
+// How many meetings a plan may have.
+const MOST_MEETINGS: usize = 256;
+
 // Who goes first at a meeting.
 #[derive(Clone, Copy)]
 pub enum First {
@@ -97,7 +100,7 @@ pub(crate) fn find_meetings(heap: Global, stays: &[Stay]) -> Result<Vec<Meeting>
     for a in 0..stays.len() {
         for b in a + 1..stays.len() {
             if meet(&stays[a], &stays[b]) {
-                if found.len() >= 256 {
+                if found.len() >= MOST_MEETINGS {
                     return Err(MeetingFault::TooMany);
                 }
                 found.push(meeting_of(&stays[a], &stays[b]))?;
