@@ -1,12 +1,9 @@
 // Reading a plan file, field by field, in file order.
 ghost use mathlib.Core.Path.{_≡_};
-ghost use mathlib.Core.Bool.{cond};
-ghost use mathlib.Core.List.{[]};
-ghost use Prim.Native.Nat.{ℕ, _+_, _*_, _<_, _≤_, _^_};
+ghost use Prim.Native.Nat.{_+_, _*_, _<_, _≤_, _^_};
 ghost use lib.ListN.{length};
 ghost use Rattle.std.specs.Of.Vec.{vec-items};
 ghost use Rattle.std.specs.Vec.{made};
-ghost use Rattle.std.specs.Results.{isOk};
 ghost use Rattle.files.specs.declared.layout.FileFault.the-variants.{Memory};
 ghost use Rattle.std.specs.shelf.Lists.{sum};
 ghost use Rattle.files.specs.Layout.{field, entry, contents, tables, stop, stops, bodies, layout};
