@@ -1,4 +1,5 @@
 // What the console makes of a line.
+#![tactic(auto)]
 ghost use Rattle.std.specs.Prelude.{◌≡◌};
 ghost use Rattle.lines.specs.Lines.{command_of};
 ghost use Rattle.run.specs.Views.{state_of};
