@@ -1,11 +1,9 @@
 -- Each part of a plan file is read as it was written.
-use Rattle.std.proofs.Common.{◌≡◌, ℕ, zero, suc, ◌+◌, ◌-◌, ◌*◌, ◌/◌, ◌%◌, ◌<◌, ◌≤◌, min, List, [], ◌∷◌, ◌++◌, map, length, get_or, drop, Ok, Err, sum_by, sum, Result, sym, refl, ap, ◌∙◌, subst, append_assoc, append-nil, add-zero, mul-zero, mul-suc, arith}
+use Rattle.std.proofs.Common.{◌≡◌, ℕ, ◌+◌, ◌*◌, ◌≤◌, min, List, [], ◌∷◌, ◌++◌, length, get_or, drop, Ok, Result, sym, refl, ap, ◌∙◌, subst, mul-zero, mul-suc, arith}
 use Rattle.std.specs.List.{flat_map, AllByRecursion as All}
-use Rattle.std.proofs.lemmas.List.{length-append}
-use Rattle.std.proofs.lemmas.List.Sums.{sum_by-cons}
 use Rattle.files.specs.declared.plan.Stop.{Stop}
-use Rattle.files.specs.Layout.{then, row, field, Entry, entry, next_entry, Table, table, next_table, stop, next_stop, Body, body, next_body}
-use Rattle.files.specs.Bytes.{word_bytes, stop_bytes, path_bytes, contents_bytes, FitsWord, StopFits}
+use Rattle.files.specs.Layout.{then, row, field, Entry, entry, next_entry, table, next_table, stop, next_stop, Body, body, next_body}
+use Rattle.files.specs.Bytes.{word_bytes, stop_bytes, path_bytes, FitsWord, StopFits}
 use Rattle.files.proofs.Rows.{then_from, same_ok, rest_is, Coded, after, encs, Goods, row_reads_all, row_writes, Bytes, field_reads, field_writes}
 
 module _ {S X : Type 0} (bs : List ℕ) (one : S → Result X ℕ) (on : S → X → S) (k : Coded bs one on) where

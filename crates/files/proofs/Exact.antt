@@ -1,13 +1,13 @@
 -- A file is read exactly when it is the file of the plan that is read.
-use Rattle.std.proofs.Common.{◌≡◌, ℕ, zero, suc, ◌+◌, ◌-◌, ◌*◌, ◌<◌, ◌≤◌, leb, List, [], ◌∷◌, ◌++◌, map, length, get_or, drop, Ok, Err, sum_by, sum, Result, sym, refl, ap, ◌∙◌, subst, append_assoc, append-nil, add-zero, zero-add, arith}
+use Rattle.std.proofs.Common.{◌≡◌, ℕ, zero, suc, ◌+◌, ◌*◌, ◌<◌, ◌≤◌, leb, List, [], ◌∷◌, ◌++◌, map, length, get_or, drop, Ok, sum_by, sum, sym, refl, ap, ◌∙◌, subst, append_assoc, append-nil, add-zero, zero-add, arith}
 use Rattle.std.specs.List.{flat_map, AllByRecursion as All}
 use Rattle.std.proofs.lemmas.List.{length-append, length-drop, length-map, get_or-map, ext_get_or, drop_all}
 use Rattle.std.proofs.lemmas.List.Sums.{sum_by-cons, sum-map}
 use Rattle.std.proofs.lemmas.Bool.{leb-true, le-leb, cond-true}
 use Rattle.files.specs.declared.plan.Stop.{Stop}
-use Rattle.files.specs.Layout.{Layout, then, row, field, Entry, entry, next_entry, contents, Table, table, next_table, tables, Body, body, next_body, bodies, bodies_at, tables_at, ended, layout}
+use Rattle.files.specs.Layout.{Layout, row, field, Entry, entry, next_entry, contents, Table, table, next_table, tables, Body, body, next_body, bodies, bodies_at, tables_at, layout}
 use Rattle.files.specs.Bytes.{word_bytes, path_bytes, contents_bytes, plan_bytes, FitsWord, StopFits, PathFits, Limits, ReadsExactly}
-use Rattle.files.proofs.Rows.{then_from, cond_ok, same_ok, rest_is, Coded, after, encs, Goods, row_reads_all, row_writes, after-at, Bytes, field_reads, field_writes}
+use Rattle.files.proofs.Rows.{then_from, cond_ok, same_ok, rest_is, after, encs, Goods, row_reads_all, row_writes, after-at, Bytes, field_reads, field_writes}
 use Rattle.files.proofs.Fields.{then_ok}
 use Rattle.files.proofs.Encoded.{encs_joined, goods_all, after_steady, length_path, entries, places, tracks}
 

@@ -1,5 +1,5 @@
 -- Paths in a list, and the first that breaks a rule.
-use Rattle.std.proofs.Common.{◌≡◌, ℕ, ◌<◌, List, [], length, get_or, sym, refl, ap, ◌∙◌, subst, arith}
+use Rattle.std.proofs.Common.{◌≡◌, ℕ, ◌<◌, List, [], length, get_or, sym, ap, ◌∙◌, subst, arith}
 use Rattle.std.proofs.lemmas.List.{get_or-map}
 use Rattle.files.specs.declared.plan.Path as plan
 use Rattle.files.specs.declared.plan.Stop.{Stop}

@@ -6,12 +6,12 @@ use Rattle.files.specs.Views.{same}
 use Rattle.files.proofs.Fields.{row_more, row_out}
 use Rattle.files.proofs.layout.read_contents.Goals as goal
 
-pub returns-in-err-count : goal.returns-in-err-count
-returns-in-err-count c =
+pub returns-in_err-count : goal.returns-in_err-count
+returns-in_err-count c =
     let lt : c.loop.counter < c.args.shuttles = omega arith in
-    let none = c.from-residual.ensures.0 in
+    let none = c.from_residual.ensures.0 in
     record {
-      value = row_out (entry c.args.bytes.now) next_entry same _ _ _ _ _ _ _ _ lt c.loop.invariant.0 c.from-residual.ensures.1 c.in-err-count.ensures.value;
+      value = row_out (entry c.args.bytes.now) next_entry same _ _ _ _ _ _ _ _ lt c.loop.invariant.0 c.from_residual.ensures.1 c.in_err-count.ensures.value;
       end = IfOk-from_err _ _ none;
       few = IfOk-from_err _ _ none;
     }
@@ -19,8 +19,8 @@ returns-in-err-count c =
 pub loop-preserved : goal.loop-preserved
 loop-preserved c =
     let lt : c.loop.counter < c.args.shuttles = omega arith in
-    let read = row_more (entry c.args.bytes.now) next_entry _ _ _ _ _ _ lt c.loop.invariant.0 c.in-ok-count.ensures.value in
-    let items = c.in-ok-push.ensures.items in
-    let total = ap sum items ∙ sum_by_push (λ x. x) (vec_items c.loop.counts) c.in-ok-count.count in
-    let most = c.in-ok-count.ensures.range in
+    let read = row_more (entry c.args.bytes.now) next_entry _ _ _ _ _ _ lt c.loop.invariant.0 c.in_ok-count.ensures.value in
+    let items = c.in_ok-push.ensures.items in
+    let total = ap sum items ∙ sum_by_push (λ x. x) (vec_items c.loop.counts) c.in_ok-count.count in
+    let most = c.in_ok-count.ensures.range in
     (cc, omega arith, omega arith, omega arith)

@@ -1,4 +1,4 @@
-use Rattle.std.proofs.Common.{◌≡◌, ◌+◌, ◌-◌, ◌*◌, [], vec_items, sum}
+use Rattle.std.proofs.Common.{◌≡◌, ◌+◌, ◌-◌, ◌*◌, vec_items, sum}
 use Rattle.files.specs.Layout.{row, entry, next_entry, contents}
 use Rattle.files.proofs.layout.read_contents.Given as goal
 
