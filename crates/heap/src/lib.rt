@@ -1,5 +1,6 @@
 // Heaps over lent memory, for records with a total order: the least is taken first.
 #![tactic(auto)]
+
 ghost use Rattle.heap.specs.Laws.{OrdersAreReflexive, SortsAscend, SortsKeepElements, RowsAreUnique, InsertsAscend, InsertsAddOne, InsertsAtPlace, PlacesDivide, FirstsAreLeast};
 
 pub mod heap;

@@ -5,7 +5,7 @@ use Rattle.std.proofs.lemmas.Bool.{le-leb, leb-true, lt-ltb, ltb-true, eqb-true,
 use Rattle.lines.specs.declared.commands.Command.{Command}
 use Rattle.lines.specs.declared.commands.Command.TheVariants.{Hold, Tick}
 use Rattle.lines.specs.Numbers.{worth, Writes, count_of_digits, then, numeral_of, number_of, ended, one_number, two_numbers}
-use Rattle.lines.specs.Lines.{letter, SpellsNumbers, Spells, ReadsExactly, command_from, command_of, command_text}
+use Rattle.lines.specs.Lines.{SpellsNumbers, Spells, ReadsExactly, command_from, command_of, command_text}
 use Rattle.lines.proofs.Digits.{count_le, count_digits, count_exact, decimal_writes}
 use Rattle.lines.proofs.Taken.{after}
 

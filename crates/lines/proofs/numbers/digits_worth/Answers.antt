@@ -4,14 +4,14 @@ use Rattle.lines.specs.Numbers.{worth}
 use Rattle.lines.proofs.Digits.{digit_is, worth_more, worth_small}
 use Rattle.lines.proofs.numbers.digits_worth.Goals as goal
 
-pub overflow-mul-value : goal.overflow-mul-value
-overflow-mul-value c = omega (arith, worth_small c.args.digits.now c.loop-digit.digit-index c.requires.all (omega (arith, c.requires.few)))
+pub overflow_mul-value : goal.overflow_mul-value
+overflow_mul-value c = omega (arith, worth_small c.args.digits.now c.loop-digit.digit-index c.requires.all (omega (arith, c.requires.few)))
 
-pub overflow-sub-digit : goal.overflow-sub-digit
-overflow-sub-digit c = omega (arith, digit_is c.args.digits.now c.loop-digit.digit-index c.requires.all c.loop-digit-test.true)
+pub overflow_sub-digit : goal.overflow_sub-digit
+overflow_sub-digit c = omega (arith, digit_is c.args.digits.now c.loop-digit.digit-index c.requires.all c.loop-digit-test.true)
 
-pub overflow-add-value : goal.overflow-add-value
-overflow-add-value c =
+pub overflow_add-value : goal.overflow_add-value
+overflow_add-value c =
     omega (arith, worth_small c.args.digits.now c.loop-digit.digit-index c.requires.all (omega (arith, c.requires.few)), digit_is c.args.digits.now c.loop-digit.digit-index c.requires.all c.loop-digit-test.true)
 
 pub loop-digit-preserved : goal.loop-digit-preserved
