@@ -1,18 +1,14 @@
 -- Some meeting clashes exactly when two paths collide, and without a clash one shuttle goes first at each meeting.
-use Rattle.std.proofs.Common.{◌≡◌, ℕ, zero, suc, ◌+◌, ◌-◌, ◌<◌, ◌≤◌, Bool, true, false, cond, not, ◌&&◌, eqb, ltb, ◌⊎◌, List, [], ◌∷◌, length, Some, None, sym, refl, ap, ◌∙◌, subst, inl, inr, ⊎_elim, arith}
-use Rattle.std.specs.List.{ContainsAt as Has}
+use Rattle.std.proofs.Common.{◌≡◌, ℕ, suc, ◌-◌, ◌<◌, ◌≤◌, Bool, true, false, cond, ltb, ◌⊎◌, List, length, Some, None, sym, refl, ap, ◌∙◌, subst, inl, inr, ⊎_elim, arith}
 use Rattle.std.proofs.lemmas.Bool.{and_parts, and_from, and_cases, both_ways, eqb-true, eqb-false, eq-eqb, ne_eqb, not-true, not-false, not_from_false, ltb-true, lt-ltb, cases_Bool, cases_lt, false≢true}
 use Rattle.files.specs.declared.plan.Stop.{Stop}
 use Rattle.files.specs.Rules.{stop_at, path_at, PathKeeps, PathsKeep}
 use Rattle.meetings.specs.declared.meet.First.{First}
-use Rattle.meetings.specs.declared.meet.First.TheVariants.{Lower, Other}
-use Rattle.meetings.specs.declared.meet.Meeting.{Meeting}
 use Rattle.meetings.specs.declared.stays.At.{At}
-use Rattle.meetings.specs.declared.stays.Stay.{Stay}
 use Rattle.meetings.specs.Collisions.{In, Enters, Leaves, Collide, SomeCollision, NoCollision}
-use Rattle.meetings.specs.Laws.{StopOf, stop_of, stay_of, Meets, SomeClash, ClashLaw, LeftBefore, OneFirst, FirstLaw}
-use Rattle.meetings.specs.Meetings.{ends_before, is_left_before, meets, clashes, meetings, stay_in, NoClash}
-use Rattle.meetings.specs.Stays.{leave_at, stays}
+use Rattle.meetings.specs.Laws.{StopOf, stop_of, stay_of, SomeClash, ClashLaw, LeftBefore, OneFirst, FirstLaw}
+use Rattle.meetings.specs.Meetings.{ends_before, is_left_before, meets, clashes, stay_in, NoClash}
+use Rattle.meetings.specs.Stays.{stays}
 use Rattle.meetings.proofs.Stands.{index_of, stay_there, stay_found, index_order, order_index, meetings_law}
 
 pub path_rises : (path : List Stop) (i : ℕ) → PathKeeps path → suc i < length path → (stop_at path i).tick < (stop_at path (suc i)).tick

@@ -1,17 +1,16 @@
 -- The list of meetings holds exactly the meetings of a plan, in meeting order.
-use Rattle.std.proofs.Common.{◌≡◌, ℕ, zero, suc, ◌+◌, ◌<◌, ◌≤◌, Bool, true, false, cond, not, ◌&&◌, eqb, ◌⊎◌, List, [], ◌∷◌, ◌++◌, length, get_or, sym, refl, ap, ◌∙◌, subst, inl, inr, ⊎_elim, zero-add, arith}
-use Rattle.std.specs.List.{range_with_len, flat_map, ContainsAt as Has, AllByRecursion as All}
+use Rattle.std.proofs.Common.{◌≡◌, ℕ, zero, suc, ◌+◌, ◌<◌, Bool, true, false, cond, not, eqb, List, [], ◌∷◌, ◌++◌, length, get_or, sym, refl, ap, ◌∙◌, subst, inl, inr, ⊎_elim, zero-add, arith}
+use Rattle.std.specs.List.{flat_map, ContainsAt as Has, AllByRecursion as All}
 use Rattle.std.proofs.lemmas.List.FromFn.{length-map-range_with_len, get_or-map-range_with_len}
-use Rattle.std.proofs.ByRecursion.{All-append, All-from_get_or, All-get_or, all-has, All-weaker, has_get_or, has_append_left, has_append_right}
+use Rattle.std.proofs.ByRecursion.{All-append, All-from_get_or, all-has, All-weaker, has_get_or, has_append_left, has_append_right}
 use Rattle.std.proofs.lemmas.Bool.{and_parts, and_from, eqb-true, eqb-false, eq-eqb, ne_eqb, not-true, cond-true, cond-false}
 use Rattle.files.specs.declared.plan.Stop.{Stop}
 use Rattle.files.specs.Rules.{path_at}
-use Rattle.meetings.specs.declared.meet.First.{First}
 use Rattle.meetings.specs.declared.meet.First.TheVariants.{Lower, Other}
 use Rattle.meetings.specs.declared.meet.Meeting.{Meeting}
 use Rattle.meetings.specs.declared.stays.At.{At}
 use Rattle.meetings.specs.declared.stays.Stay.{Stay}
-use Rattle.meetings.specs.Laws.{StopOf, stop_of, stay_of, GoesFirst, Meets, Earlier, Precedes, Ascending, MeetingsLaw}
+use Rattle.meetings.specs.Laws.{StopOf, stay_of, Meets, Earlier, Precedes, Ascending, MeetingsLaw}
 use Rattle.meetings.specs.Meetings.{is_left_before, meets, meeting_between, meet_with, meetings_of, meetings, stay_in}
 use Rattle.meetings.specs.Stays.{stay_of_stop, path_stays, stays}
 use Rattle.meetings.proofs.Counts.{all_both}

@@ -3,7 +3,6 @@ use Rattle.std.specs.Prelude.{ℕ, suc, cond, List, map, length, Some, None, Opt
 use Rattle.std.specs.List.{range_with_len, flat_map}
 use Rattle.files.specs.declared.plan.Stop.{Stop}
 use Rattle.files.specs.Rules.{stop_at, path_at}
-use Rattle.meetings.specs.declared.stays.At.{At}
 use Rattle.meetings.specs.declared.stays.Stay.{Stay}
 
 -- A stop is left at the tick at which the next one is entered; the last is never left.

@@ -1,5 +1,6 @@
 // Where the paths of a plan meet: its meetings in meeting order, with who goes first in the plan, unless two paths collide.
 #![tactic(auto)]
+
 ghost use Rattle.files.specs.Views.{paths_of};
 ghost use Rattle.meetings.specs.Laws.{MeetingsLaw, ClashLaw, FirstLaw};
 ghost use Rattle.meetings.specs.Settled.{Settled};

@@ -1,5 +1,5 @@
 -- The guesses from a genuine order file are the orders that it was written of.
-use Rattle.std.proofs.Common.{◌≡◌, ℕ, ◌<◌, List, length, get_or, vec_items, sym, ap, ◌∙◌, subst, arith}
+use Rattle.std.proofs.Common.{◌≡◌, ℕ, ◌<◌, List, length, get_or, vec_items, ap, subst, arith}
 use Rattle.std.specs.List.{AllByRecursion as All}
 use Rattle.std.proofs.lemmas.List.{ext_get_or, length-map}
 use Rattle.files.specs.Views.{path_of, paths_of}

@@ -1,5 +1,5 @@
 -- Writing over a buffer, part by part.
-use Rattle.std.proofs.Common.{◌≡◌, ℕ, suc, ◌+◌, ◌/◌, ◌%◌, ◌<◌, ◌≤◌, List, [], ◌∷◌, ◌++◌, length, get_or, take, drop, set, sym, refl, ap, ◌∙◌, append_assoc, append-nil, add-zero, add-one, arith}
+use Rattle.std.proofs.Common.{◌≡◌, ℕ, ◌+◌, ◌≤◌, List, [], ◌∷◌, ◌++◌, length, get_or, take, drop, set, sym, ap, ◌∙◌, append_assoc, add-zero, add-one, arith}
 use Rattle.std.proofs.lemmas.List.{length-append, length-drop, length_push, length-take-le, set_split, set_at, drop_more, drop-drop, drop_at, take_at, take-append-drop}
 use Rattle.orders.specs.File.{over}
 

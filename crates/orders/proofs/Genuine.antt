@@ -1,20 +1,19 @@
 -- What a genuine order file shows of the orders that it was written of.
-use Rattle.std.proofs.Common.{◌≡◌, ℕ, zero, suc, ◌+◌, ◌-◌, ◌*◌, ◌/◌, ◌%◌, ◌<◌, ◌≤◌, min, Bool, true, false, cond, eqb, ◌⊎◌, List, [], ◌∷◌, ◌++◌, length, get_or, filter, sym, refl, ap, ◌∙◌, subst, inl, inr, ⊎_elim, add-zero, arith}
-use Rattle.std.specs.List.{range_with_len, flat_map, ContainsAt as Has, AllByRecursion as All}
+use Rattle.std.proofs.Common.{◌≡◌, ℕ, zero, suc, ◌+◌, ◌-◌, ◌*◌, ◌/◌, ◌%◌, ◌<◌, ◌≤◌, Bool, true, false, cond, List, [], ◌∷◌, ◌++◌, length, get_or, filter, sym, refl, ap, ◌∙◌, subst, ⊎_elim, arith}
+use Rattle.std.specs.List.{flat_map, ContainsAt as Has, AllByRecursion as All}
 use Rattle.std.proofs.ByRecursion.{All-get_or, all_kept_by, all_has_itself, kept_by_passes, has_get_or}
 use Rattle.std.proofs.lemmas.List.{length-append, get_or_append_left, get_or-append_right}
-use Rattle.std.proofs.lemmas.Bool.{cond-true, cond-false, eq-eqb, eqb-true, cases_lt}
+use Rattle.std.proofs.lemmas.Bool.{cond-true, eq-eqb, eqb-true, cases_lt}
 use Rattle.files.specs.Bytes.{word_bytes}
 use Rattle.files.specs.Layout.{word}
 use Rattle.meetings.specs.declared.meet.First.{First}
 use Rattle.meetings.specs.declared.meet.First.TheVariants.{Lower, Other}
 use Rattle.meetings.specs.declared.meet.Meeting.{Meeting}
-use Rattle.meetings.specs.declared.stays.At.{At}
 use Rattle.meetings.proofs.Places.{upto, upto-at}
 use Rattle.orders.specs.declared.waits.Wait.{Wait}
-use Rattle.orders.specs.File.{wait_bytes, body_bytes, before, body_at, entry_bytes, order_bytes}
-use Rattle.orders.specs.Reading.{EntryIs, Lists, LowerWaits, Guessed}
-use Rattle.orders.specs.Waits.{following, wait_under, waits, nth_wait, is_second, body_of}
+use Rattle.orders.specs.File.{wait_bytes, body_bytes, body_at, entry_bytes, order_bytes}
+use Rattle.orders.specs.Reading.{EntryIs, LowerWaits, Guessed}
+use Rattle.orders.specs.Waits.{wait_under, waits, nth_wait, is_second, body_of}
 use Rattle.orders.proofs.Bodies.{length-wait_bytes, length-entries, length-bodies}
 use Rattle.orders.proofs.Zipped.{no_meeting, no_wait, length-waits, waits-at}
 

@@ -1,13 +1,12 @@
 -- What an opened plan gives the writer of its order file.
-use Rattle.std.proofs.Common.{◌≡◌, ℕ, zero, suc, ◌<◌, ◌≤◌, List, [], ◌∷◌, length, get_or, sym, ap, ◌∙◌, subst, inl, inr, arith}
+use Rattle.std.proofs.Common.{◌≡◌, ℕ, zero, suc, ◌<◌, ◌≤◌, List, [], ◌∷◌, length, get_or, sym, ap, subst, inl, inr, arith}
 use mathlib.Core.HLevel.{Unit-prop, ×_prop, ⊥_prop}
 use mathlib.Core.Logic.{∥∥₁_elim}
 use native.Mathlib.Bridge.{le_prop}
 use Rattle.std.specs.List.{AllByRecursion as All}
 use Rattle.std.proofs.ByRecursion.{All-from_get_or, All-get_or, has_get_or}
 use Rattle.files.specs.declared.plan.Stop.{Stop}
-use Rattle.files.specs.Bytes.{PathFits, Limits}
-use Rattle.files.specs.Rules.{path_at}
+use Rattle.files.specs.Bytes.{PathFits}
 use Rattle.meetings.specs.declared.meet.Meeting.{Meeting}
 use Rattle.meetings.specs.declared.stays.At.{At}
 use Rattle.meetings.specs.Laws.{StopOf, Earlier, Precedes, Ascending}

@@ -1,14 +1,12 @@
 -- Waits by index, and what a shuttle has of them.
-use Rattle.std.proofs.Common.{◌≡◌, ℕ, zero, suc, ◌+◌, ◌<◌, ◌≤◌, min, Bool, true, false, cond, List, [], ◌∷◌, ◌++◌, length, get_or, take, Some, None, sym, refl, ap, ◌∙◌, arith}
-use Rattle.std.specs.List.{AllByRecursion as All}
+use Rattle.std.proofs.Common.{◌≡◌, ℕ, zero, suc, ◌+◌, ◌<◌, ◌≤◌, min, true, false, List, [], ◌∷◌, ◌++◌, length, get_or, take, Some, None, sym, refl, ap, ◌∙◌, arith}
 use Rattle.std.proofs.lemmas.List.Elements.{filter_more}
-use Rattle.std.proofs.ByRecursion.{All-get_or}
 use Rattle.std.proofs.lemmas.Bool.{cond-true, cond-false, eq-eqb, ne_eqb}
 use Rattle.meetings.specs.declared.meet.First.{First}
-use Rattle.meetings.specs.declared.meet.First.TheVariants.{Lower, Other}
+use Rattle.meetings.specs.declared.meet.First.TheVariants.{Lower}
 use Rattle.meetings.specs.declared.meet.Meeting.{Meeting}
 use Rattle.orders.specs.declared.waits.Wait.{Wait}
-use Rattle.orders.specs.Waits.{wait_under, wait_by_number, waits, nth_wait, is_second, body_of, FitsMeeting}
+use Rattle.orders.specs.Waits.{wait_under, wait_by_number, waits, nth_wait, is_second, body_of}
 
 abbrev pub no_meeting : Meeting
 no_meeting = record { lower = record { shuttle = 0; stop = 0 }; other = record { shuttle = 0; stop = 0 }; first = Lower }

@@ -1,5 +1,5 @@
 -- The order file: the number of shuttles; for each the offset of its body and the number of its waits; then the bodies.
-use Rattle.std.specs.Prelude.{◌≡◌, ℕ, ◌+◌, ◌*◌, ◌<◌, List, [], ◌∷◌, ◌++◌, length, take, drop, Ok, Err, sum_by, Result}
+use Rattle.std.specs.Prelude.{◌≡◌, ℕ, ◌+◌, ◌*◌, ◌<◌, List, ◌++◌, length, take, drop, Ok, Err, sum_by, Result}
 use Rattle.std.specs.List.{range_with_len, flat_map}
 use Rattle.files.specs.Bytes.{word_bytes}
 use Rattle.orders.specs.declared.waits.Wait.{Wait}

@@ -1,6 +1,5 @@
 -- A plan is opened exactly when its file and its paths keep all rules.
-use Rattle.std.proofs.Common.{◌≡◌, ℕ, ◌<◌, ◌≤◌, true, false, List, length, Ok, Err, vec_items, Result, Vec, sym, refl, ap, ◌∙◌, subst, arith}
-use Rattle.std.specs.declared.alloc.Global.{Global}
+use Rattle.std.proofs.Common.{◌≡◌, ℕ, ◌≤◌, List, length, Ok, Err, vec_items, Result, sym, refl, ap, ◌∙◌, subst, arith}
 use Rattle.std.specs.List.{ContainsAt as Has}
 use Rattle.std.proofs.lemmas.Bool.{both_ways}
 use Rattle.files.specs.declared.layout.FileFault.TheVariants.{Torn}
@@ -18,7 +17,6 @@ use Rattle.files.proofs.Rows.{same_ok}
 use Rattle.meetings.specs.declared.meet.Meeting.{Meeting}
 use Rattle.meetings.specs.declared.meet.MeetingFault.{MeetingFault}
 use Rattle.meetings.specs.declared.meet.MeetingFault.TheVariants as meeting
-use Rattle.meetings.specs.Collisions.{NoCollision}
 use Rattle.meetings.specs.Meetings.{meetings, NoClash, FirstClash}
 use Rattle.meetings.specs.Settled.{Settled}
 use Rattle.meetings.specs.Stays.{stays}
@@ -28,7 +26,7 @@ use Rattle.plans.specs.declared.plan.Plan.{Plan}
 use Rattle.plans.specs.declared.plan.opening.PlanFault.{PlanFault}
 use Rattle.plans.specs.declared.plan.opening.PlanFault.TheVariants.{File, Path, Meetings}
 use Rattle.plans.specs.Kept.{Kept}
-use Rattle.plans.specs.Opening.{plan_layout, Ruled, Opens, Takable, Takes, OpensExactly, FirstsStand}
+use Rattle.plans.specs.Opening.{plan_layout, Opens, Takable, Takes, OpensExactly, FirstsStand}
 
 pub opened :
     (bs : List ℕ) (l : Layout) (ms : List Meeting) → ReadsExactly bs → layout bs ≡ Ok l → PathsKeep l.paths

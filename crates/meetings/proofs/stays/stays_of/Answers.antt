@@ -1,4 +1,4 @@
-use Rattle.std.proofs.Common.{◌≡◌, ◌≤◌, List, [], ◌++◌, length, vec_items, sym, ap, ◌∙◌, arith}
+use Rattle.std.proofs.Common.{◌≡◌, ◌++◌, length, sym, ap, ◌∙◌, arith}
 use Rattle.std.proofs.lemmas.List.{length-map}
 use Rattle.std.specs.List.{range_with_len, flat_map}
 use Rattle.files.specs.Rules.{path_at}
@@ -12,8 +12,8 @@ pub loop-shuttle-preserved : goal.loop-shuttle-preserved
 loop-shuttle-preserved c =
     let s = c.loop-shuttle.shuttle in
     let ps = paths_of c.args.paths.now in
-    let here : c.as-slice.result.now ≡ path_at ps s = c.as-slice.ensures.value ∙ sym (path_read c.args.paths.now s c.index-paths-shuttle.result c.loop-shuttle-test.true c.index-paths-shuttle.is) in
-    c.in-ok-add-stays.ensures
+    let here : c.as_slice.result.now ≡ path_at ps s = c.as_slice.ensures.value ∙ sym (path_read c.args.paths.now s c.index-paths-shuttle.result c.loop-shuttle-test.true c.index-paths-shuttle.is) in
+    c.in_ok-add_stays.ensures
     ∙ (λ i. c.loop-shuttle.invariant i ++ path_stays s (here i))
     ∙ sym (joined_counting_more (λ t. path_stays t (path_at ps t)) s)
 

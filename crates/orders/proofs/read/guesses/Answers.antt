@@ -1,4 +1,4 @@
-use Rattle.std.proofs.Common.{◌≡◌, ℕ, ◌+◌, ◌<◌, length, get_or, vec_items, sym, ap, ◌∙◌, subst, arith, below_more}
+use Rattle.std.proofs.Common.{ℕ, ◌+◌, length, get_or, vec_items, sym, ap, ◌∙◌, subst, arith, below_more}
 use Rattle.std.proofs.ByRecursion.{All-get_or}
 use Rattle.std.proofs.lemmas.List.{get_or_append_left, get_or_push, length_push}
 use Rattle.meetings.specs.declared.meet.First.{First}
@@ -16,7 +16,7 @@ loop-k-preserved c =
     let old = vec_items c.loop-k.firsts in
     let bs = c.args.bytes.now in
     let ms = c.args.meetings.now in
-    let items = c.in-ok-push.ensures.items in
+    let items = c.in_ok-push.ensures.items in
     let At : ℕ → First → Type 0 = λ j f. Guessed bs (get_or ms j no_meeting) f in
     let P : ℕ → Type 0 = λ j. At j (get_or (vec_items c.push.new.self) j Lower) in (
       ap length items ∙ length_push old c.guess.result ∙ ap (λ k. k + 1) c.loop-k.invariant.0,

@@ -1,4 +1,4 @@
-use Rattle.std.proofs.Common.{◌≡◌, ℕ, ◌-◌, ◌<◌, ◌≤◌, Bool, true, false, List, ◌++◌, length, take, drop, replicate, Err, vec_items, MatchBool, sym, refl, ap, ◌∙◌, subst, arith}
+use Rattle.std.proofs.Common.{◌≡◌, ℕ, ◌-◌, ◌<◌, ◌≤◌, Bool, true, false, List, ◌++◌, length, take, drop, replicate, Err, vec_items, MatchBool, sym, ap, ◌∙◌, arith}
 use Rattle.std.proofs.lemmas.List.{length-append, length-map, length-replicate, take_at}
 use Rattle.files.specs.Views.{path_of, paths_of}
 use Rattle.orders.specs.declared.write.OrderFault.{OrderFault}
@@ -24,13 +24,13 @@ within len file old new w = omega (arith, w.0, ap length w.1, length-append file
 too_short : (e : OrderFault) (file old new : List ℕ) → Written (Err e) file old new → length old < length file
 too_short Short file old new w = w.0
 
-pub slice-bounds-same-bytes-end : goal.slice-bounds-same-bytes-end
-slice-bounds-same-bytes-end c = within c.in-Ok.len (plan_orders c.args.plan.now c.args.firsts.now) _ _ c.in-Ok.ensures
+pub slice_bounds-same_bytes-end : goal.slice_bounds-same_bytes-end
+slice_bounds-same_bytes-end c = within c.in-Ok.len (plan_orders c.args.plan.now c.args.firsts.now) _ _ c.in-Ok.ensures
 
 pub returns-in-Ok : goal.returns-in-Ok
 returns-in-Ok c =
     let whole : c.in-Ok.len - 0 ≡ c.in-Ok.len = omega arith in
-    compared c.same-bytes.result c.in-Ok.len (plan_orders c.args.plan.now c.args.firsts.now) _ c.write-orders.new.out _ c.args.bytes.now c.in-Ok.ensures (ap (λ n. take n c.write-orders.new.out) whole) c.same-bytes.ensures
+    compared c.same_bytes.result c.in-Ok.len (plan_orders c.args.plan.now c.args.firsts.now) _ c.write_orders.new.out _ c.args.bytes.now c.in-Ok.ensures (ap (λ n. take n c.write_orders.new.out) whole) c.same_bytes.ensures
 
 pub returns-in-Err : goal.returns-in-Err
 returns-in-Err c =

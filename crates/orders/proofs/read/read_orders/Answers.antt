@@ -1,7 +1,6 @@
-use Rattle.std.proofs.Common.{◌≡◌, List, length, vec_items, sym, ap, ◌∙◌, subst}
+use Rattle.std.proofs.Common.{length, vec_items, sym, ap, ◌∙◌, subst}
 use Rattle.std.specs.List.{AllByRecursion as All}
 use Rattle.files.specs.Views.{paths_of}
-use Rattle.meetings.specs.declared.meet.First.{First}
 use Rattle.orders.specs.Plans.{plan_orders}
 use Rattle.orders.specs.Waits.{FitsMeeting}
 use Rattle.orders.proofs.Back.{guesses_right}
@@ -13,15 +12,15 @@ guesses-requires c =
     let plan = c.args.plan.now in
     subst (All FitsMeeting) (sym c.meetings.ensures) (meetings_fit (paths_of (vec_items plan.paths)) (vec_items plan.tables) (vec_items plan.meetings) plan.sound)
 
-pub returns-then-is-file : goal.returns-then-is-file
-returns-then-is-file c =
+pub returns-then-is_file : goal.returns-then-is_file
+returns-then-is_file c =
     let plan = c.args.plan.now in
-    let g = c.in-ok-firsts.ensures in (
-      (g.0 ∙ ap length c.meetings.ensures, c.if-is-file.ensures ∙ ap (plan_orders plan) c.as-slice.ensures.value),
-      guesses_right plan c.args.bytes.now c.meetings.result.now (vec_items c.in-ok-firsts.firsts) c.meetings.ensures g,
+    let g = c.in_ok-firsts.ensures in (
+      (g.0 ∙ ap length c.meetings.ensures, c.if-is_file.ensures ∙ ap (plan_orders plan) c.as_slice.ensures.value),
+      guesses_right plan c.args.bytes.now c.meetings.result.now (vec_items c.in_ok-firsts.firsts) c.meetings.ensures g,
     )
 
-pub returns-else-is-file : goal.returns-else-is-file
-returns-else-is-file c =
+pub returns-else-is_file : goal.returns-else-is_file
+returns-else-is_file c =
     let plan = c.args.plan.now in
-    λ fs f. c.if-is-file.ensures (f.1 ∙ ap (plan_orders plan) (sym (c.as-slice.ensures.value ∙ guesses_right plan c.args.bytes.now c.meetings.result.now (vec_items c.in-ok-firsts.firsts) c.meetings.ensures c.in-ok-firsts.ensures fs f)))
+    λ fs f. c.if-is_file.ensures (f.1 ∙ ap (plan_orders plan) (sym (c.as_slice.ensures.value ∙ guesses_right plan c.args.bytes.now c.meetings.result.now (vec_items c.in_ok-firsts.firsts) c.meetings.ensures c.in_ok-firsts.ensures fs f)))

@@ -1,4 +1,4 @@
-use Rattle.std.proofs.Common.{◌≡◌, Bool, true, false, Decides, MatchBool, refl}
+use Rattle.std.proofs.Common.{Bool, true, false, Decides, MatchBool, refl}
 use Rattle.std.proofs.lemmas.Slice.Eq.{slice_eq-Decides}
 use Rattle.std.proofs.lemmas.Bool.Decides.{not_from_Decides, Decides-eqb}
 use Rattle.orders.proofs.read.same_bytes.Goals as goal

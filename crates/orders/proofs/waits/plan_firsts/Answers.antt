@@ -9,7 +9,7 @@ pub loop-meeting-preserved : goal.loop-meeting-preserved
 loop-meeting-preserved c =
     let ms = c.meetings-meeting-items.result.now in
     let i = c.loop-meeting.meeting-index in
-    c.in-ok-push.ensures.items
+    c.in_ok-push.ensures.items
     ∙ ap (λ l. l ++ (get_or ms i no_meeting).first ∷ []) c.loop-meeting.invariant
     ∙ sym (map_more (λ (m : Meeting). m.first) ms i no_meeting c.loop-meeting-test.true)
 

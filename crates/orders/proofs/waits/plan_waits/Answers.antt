@@ -1,4 +1,4 @@
-use Rattle.std.proofs.Common.{[], ◌∷◌, ◌++◌, length, vec_items, sym, ap, ◌∙◌, subst}
+use Rattle.std.proofs.Common.{[], ◌∷◌, ◌++◌, vec_items, sym, ap, ◌∙◌, subst}
 use Rattle.std.specs.List.{AllByRecursion as All}
 use Rattle.std.proofs.ByRecursion.{All-get_or}
 use Rattle.std.proofs.lemmas.List.{map_more, take_all}
@@ -8,8 +8,8 @@ use Rattle.orders.proofs.Sound.{meetings_fit}
 use Rattle.orders.proofs.Zipped.{no_meeting}
 use Rattle.orders.proofs.waits.plan_waits.Goals as goal
 
-pub wait-of-requires : goal.wait-of-requires
-wait-of-requires c =
+pub wait_of-requires : goal.wait_of-requires
+wait_of-requires c =
     let plan = c.args.plan.now in
     let all = subst (All FitsMeeting) (sym c.meetings-meetings.ensures) (meetings_fit (paths_of (vec_items plan.paths)) (vec_items plan.tables) (vec_items plan.meetings) plan.sound) in
     All-get_or FitsMeeting c.meetings-meetings.result.now c.loop-k.k no_meeting c.loop-k-test.true all
@@ -17,8 +17,8 @@ wait-of-requires c =
 pub loop-k-preserved : goal.loop-k-preserved
 loop-k-preserved c =
     let ms = c.meetings-meetings.result.now in
-    c.in-ok-push.ensures.items
-    ∙ (λ i. c.loop-k.invariant i ++ c.wait-of.ensures i ∷ [])
+    c.in_ok-push.ensures.items
+    ∙ (λ i. c.loop-k.invariant i ++ c.wait_of.ensures i ∷ [])
     ∙ sym (map_more own_wait ms c.loop-k.k no_meeting c.loop-k-test.true)
 
 pub returns : goal.returns

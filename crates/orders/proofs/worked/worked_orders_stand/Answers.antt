@@ -1,4 +1,4 @@
-use Rattle.std.proofs.Common.{List, [], ◌∷◌, refl, ap}
+use Rattle.std.proofs.Common.{[], ◌∷◌, refl, ap}
 use Rattle.orders.specs.Waits.{wait_under}
 use Rattle.orders.specs.Worked.{OwnWaits}
 use Rattle.orders.proofs.worked.worked_orders_stand.Goals as goal

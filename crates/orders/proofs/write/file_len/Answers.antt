@@ -6,4 +6,4 @@ use Rattle.orders.proofs.write.file_len.Goals as goal
 pub loop-shuttle-preserved : goal.loop-shuttle-preserved
 loop-shuttle-preserved c =
     let more = before_more (waits c.args.meetings.now c.args.firsts.now) c.loop-shuttle.shuttle in
-    (omega (arith, c.count-waits.ensures.count, c.loop-shuttle.invariant.0), omega (arith, c.count-waits.ensures.few, c.loop-shuttle.invariant.1, c.requires.met))
+    (omega (arith, c.count_waits.ensures.count, c.loop-shuttle.invariant.0), omega (arith, c.count_waits.ensures.few, c.loop-shuttle.invariant.1, c.requires.met))

@@ -1,4 +1,4 @@
-use Rattle.std.proofs.Common.{◌≡◌, ◌+◌, ◌*◌, ◌<◌, ◌≤◌, length, sym, ap, ◌∙◌, arith}
+use Rattle.std.proofs.Common.{◌≡◌, ◌+◌, ◌*◌, length, sym, ap, ◌∙◌, arith}
 use Rattle.std.proofs.lemmas.List.{length-append}
 use Rattle.orders.specs.File.{body_bytes, over}
 use Rattle.orders.specs.Waits.{waits}
@@ -10,8 +10,8 @@ use Rattle.orders.proofs.write.put_bodies.Goals as goal
 pub loop-shuttle-init : goal.loop-shuttle-init
 loop-shuttle-init c = (sym (over_none c.args.out.now (2 + 4 * c.args.shuttles)), omega arith)
 
-pub put-body-at-requires : goal.put-body-at-requires
-put-body-at-requires c =
+pub put_body-at-requires : goal.put_body-at-requires
+put_body-at-requires c =
     let f = body_bytes (waits c.args.meetings.now c.args.firsts.now) in
     let room = upto_rises f c.loop-shuttle.shuttle c.args.shuttles c.loop-shuttle-test.true in
     record { space = omega (arith, c.loop-shuttle.invariant.1, c.loop-shuttle.auto.out, c.requires.space); fits = c.requires.fits }
@@ -23,8 +23,8 @@ loop-shuttle-preserved c =
     let begin = 2 + 4 * c.args.shuttles in
     let more = joined_counting_more f s in
     let room = upto_rises f s c.args.shuttles c.loop-shuttle-test.true in (
-      c.put-body-at.ensures.bytes ∙ ap (λ o. over o c.loop-shuttle.at (f s)) c.loop-shuttle.invariant.0 ∙ over_more c.args.out.now begin (upto f s) (f s) c.loop-shuttle.at c.loop-shuttle.invariant.1 (omega (arith, c.requires.space)) ∙ ap (over c.args.out.now begin) (sym more),
-      omega (arith, c.put-body-at.ensures.next, c.loop-shuttle.invariant.1, ap length more, length-append (upto f s) (f s)),
+      c.put_body-at.ensures.bytes ∙ ap (λ o. over o c.loop-shuttle.at (f s)) c.loop-shuttle.invariant.0 ∙ over_more c.args.out.now begin (upto f s) (f s) c.loop-shuttle.at c.loop-shuttle.invariant.1 (omega (arith, c.requires.space)) ∙ ap (over c.args.out.now begin) (sym more),
+      omega (arith, c.put_body-at.ensures.next, c.loop-shuttle.invariant.1, ap length more, length-append (upto f s) (f s)),
     )
 
 pub returns : goal.returns

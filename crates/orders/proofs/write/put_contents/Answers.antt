@@ -1,7 +1,7 @@
-use Rattle.std.proofs.Common.{◌≡◌, ◌+◌, ◌*◌, ◌<◌, ◌≤◌, ◌++◌, length, sym, refl, ap, ◌∙◌, append_assoc, arith}
+use Rattle.std.proofs.Common.{◌≡◌, ◌+◌, ◌++◌, sym, refl, ap, ◌∙◌, append_assoc, arith}
 use Rattle.std.proofs.lemmas.List.{length-append}
 use Rattle.files.specs.Bytes.{word_bytes}
-use Rattle.orders.specs.File.{body_at, entry_bytes, over}
+use Rattle.orders.specs.File.{entry_bytes, over}
 use Rattle.orders.specs.Waits.{waits}
 use Rattle.meetings.proofs.Counts.{joined_counting_more}
 use Rattle.meetings.proofs.Places.{upto}
@@ -22,18 +22,18 @@ loop-shuttle-preserved c =
     let old = c.args.out.now in
     let done = upto f s in
     let a = word_bytes c.loop-shuttle.begin in
-    let b = word_bytes c.count-waits-count.result in
+    let b = word_bytes c.count_waits-count.result in
     let long = length-entries n ws s in
     let first = over_more old 2 done a at (omega (arith, c.loop-shuttle.invariant.1)) (omega (arith, c.requires.space)) in
     let second = over_more old 2 (done ++ a) b (at + 2) (omega (arith, c.loop-shuttle.invariant.1, length-append done a)) (omega (arith, c.requires.space, length-append done a)) in
-    let here : a ++ b ≡ f s = (λ i. word_bytes (c.loop-shuttle.invariant.2 i) ++ word_bytes (c.count-waits-count.ensures.count i)) in (
-      c.put-word-in-loop-shuttle.ensures
-          ∙ ap (λ o. over o (at + 2) b) (c.put-word.ensures ∙ ap (λ o. over o at a) c.loop-shuttle.invariant.0 ∙ first)
+    let here : a ++ b ≡ f s = (λ i. word_bytes (c.loop-shuttle.invariant.2 i) ++ word_bytes (c.count_waits-count.ensures.count i)) in (
+      c.put_word-in-loop-shuttle.ensures
+          ∙ ap (λ o. over o (at + 2) b) (c.put_word.ensures ∙ ap (λ o. over o at a) c.loop-shuttle.invariant.0 ∙ first)
           ∙ second
           ∙ ap (over old 2) (append_assoc done a b ∙ ap (λ l. done ++ l) here ∙ sym (joined_counting_more f s)),
       omega (arith, c.loop-shuttle.invariant.1),
-      omega (arith, c.loop-shuttle.invariant.2, c.count-waits-count.ensures.count, before_more ws s),
-      omega (arith, c.loop-shuttle.invariant.3, c.count-waits-count.ensures.few, c.requires.met),
+      omega (arith, c.loop-shuttle.invariant.2, c.count_waits-count.ensures.count, before_more ws s),
+      omega (arith, c.loop-shuttle.invariant.3, c.count_waits-count.ensures.few, c.requires.met),
     )
 
 pub returns : goal.returns

@@ -1,4 +1,4 @@
-use Rattle.std.proofs.Common.{◌≡◌, ℕ, ◌+◌, ◌*◌, ◌≤◌, List, ◌++◌, length, drop, sym, refl, ap, ◌∙◌, arith}
+use Rattle.std.proofs.Common.{◌≡◌, ◌+◌, ◌*◌, ◌≤◌, ◌++◌, length, drop, sym, refl, ap, ◌∙◌, arith}
 use Rattle.std.specs.List.{range_with_len, flat_map}
 use Rattle.std.proofs.lemmas.List.{length-append}
 use Rattle.files.specs.Bytes.{word_bytes}
@@ -10,16 +10,16 @@ use Rattle.orders.proofs.write.put_orders.Goals as goal
 
 pub returns-then-out-len : goal.returns-then-out-len
 returns-then-out-len c =
-    (omega (arith, length-order_bytes c.args.shuttles (waits c.args.meetings.now c.args.firsts.now), c.file-len-len.ensures, c.if-out-len.true), refl)
+    (omega (arith, length-order_bytes c.args.shuttles (waits c.args.meetings.now c.args.firsts.now), c.file_len-len.ensures, c.if-out-len.true), refl)
 
-pub put-contents-requires : goal.put-contents-requires
-put-contents-requires c =
-    record { few = c.requires.few; met = c.requires.met; space = omega (arith, c.file-len-len.ensures, c.if-out-len.false, c.put-word.auto.out); fits = c.requires.fits }
+pub put_contents-requires : goal.put_contents-requires
+put_contents-requires c =
+    record { few = c.requires.few; met = c.requires.met; space = omega (arith, c.file_len-len.ensures, c.if-out-len.false, c.put_word.auto.out); fits = c.requires.fits }
 
-pub put-bodies-requires : goal.put-bodies-requires
-put-bodies-requires c =
+pub put_bodies-requires : goal.put_bodies-requires
+put_bodies-requires c =
     let long = length-bodies (waits c.args.meetings.now c.args.firsts.now) c.args.shuttles in
-    record { few = c.requires.few; space = omega (arith, c.file-len-len.ensures, c.if-out-len.false, c.put-word.auto.out, c.put-contents.auto.out); fits = c.requires.fits }
+    record { few = c.requires.few; space = omega (arith, c.file_len-len.ensures, c.if-out-len.false, c.put_word.auto.out, c.put_contents.auto.out); fits = c.requires.fits }
 
 pub returns : goal.returns
 returns c =
@@ -31,14 +31,14 @@ returns c =
     let d = flat_map (body_bytes ws) (range_with_len 0 n) in
     let b-long = length-entries n ws n in
     let d-long = length-bodies ws n in
-    let whole : c.file-len-len.result ≡ length (order_bytes n ws) = c.file-len-len.ensures ∙ sym (length-order_bytes n ws) in
-    let room : 2 + 4 * n + length d ≤ length old = omega (arith, c.file-len-len.ensures, c.if-out-len.false) in
+    let whole : c.file_len-len.result ≡ length (order_bytes n ws) = c.file_len-len.ensures ∙ sym (length-order_bytes n ws) in
+    let room : 2 + 4 * n + length d ≤ length old = omega (arith, c.file_len-len.ensures, c.if-out-len.false) in
     let first = over_more old 0 a b 2 refl (omega arith) in
     let second = over_more old 0 (a ++ b) d (2 + 4 * n) (omega (arith, length-append a b)) (omega (arith, length-append a b)) in
-    let end : 0 + length (order_bytes n ws) ≡ c.file-len-len.result = omega arith in (
+    let end : 0 + length (order_bytes n ws) ≡ c.file_len-len.result = omega arith in (
       whole,
-      c.put-bodies.ensures
-          ∙ ap (λ o. over o (2 + 4 * n) d) (c.put-contents.ensures ∙ ap (λ o. over o 2 b) c.put-word.ensures ∙ first)
+      c.put_bodies.ensures
+          ∙ ap (λ o. over o (2 + 4 * n) d) (c.put_contents.ensures ∙ ap (λ o. over o 2 b) c.put_word.ensures ∙ first)
           ∙ second
           ∙ ap (λ k. order_bytes n ws ++ drop k old) end,
     )

@@ -11,6 +11,6 @@ returns c =
     let a = word_bytes c.args.wait.now.second.stop in
     let b = word_bytes c.args.wait.now.awaited.shuttle in
     let d = word_bytes c.args.wait.now.awaited.stop in
-    c.put-word-3.ensures
-    ∙ ap (λ o. over o (at + 4) d) (c.put-word-2.ensures ∙ ap (λ o. over o (at + 2) b) c.put-word.ensures ∙ over_more old at a b (at + 2) refl (omega (arith, c.requires.space)))
+    c.put_word-3.ensures
+    ∙ ap (λ o. over o (at + 4) d) (c.put_word-2.ensures ∙ ap (λ o. over o (at + 2) b) c.put_word.ensures ∙ over_more old at a b (at + 2) refl (omega (arith, c.requires.space)))
     ∙ over_more old at (a ++ b) d (at + 4) refl (omega (arith, c.requires.space))

@@ -1,16 +1,15 @@
-use Rattle.std.proofs.Common.{◌≡◌, ℕ, List, length, vec_items, sym, ap, ◌∙◌, subst, arith}
+use Rattle.std.proofs.Common.{◌≡◌, ℕ, List, length, vec_items, sym, ap, subst, arith}
 use Rattle.std.specs.List.{AllByRecursion as All}
 use Rattle.std.proofs.lemmas.List.{length-map}
 use Rattle.files.specs.Views.{path_of, paths_of}
-use Rattle.meetings.specs.declared.meet.Meeting.{Meeting}
 use Rattle.orders.specs.File.{order_bytes, Written}
 use Rattle.orders.specs.Plans.{plan_orders}
 use Rattle.orders.specs.Waits.{waits, FitsMeeting}
 use Rattle.orders.proofs.Sound.{few_shuttles, few_meetings, meetings_fit}
 use Rattle.orders.proofs.write.write_orders.Goals as goal
 
-pub put-orders-requires : goal.put-orders-requires
-put-orders-requires c =
+pub put_orders-requires : goal.put_orders-requires
+put_orders-requires c =
     let plan = c.args.plan.now in
     let ps = paths_of (vec_items plan.paths) in
     let ms = vec_items plan.meetings in
@@ -23,4 +22,4 @@ put-orders-requires c =
 pub returns : goal.returns
 returns c =
     let same : order_bytes (length c.paths-shuttles.result.now) (waits c.meetings.result.now c.args.firsts.now) ≡ plan_orders c.args.plan.now c.args.firsts.now = (λ i. order_bytes (length (c.paths-shuttles.ensures i)) (waits (c.meetings.ensures i) c.args.firsts.now)) in
-    subst (λ (bs : List ℕ). Written c.put-orders.result bs c.args.out.now c.put-orders.new.out) same c.put-orders.ensures
+    subst (λ (bs : List ℕ). Written c.put_orders.result bs c.args.out.now c.put_orders.new.out) same c.put_orders.ensures
