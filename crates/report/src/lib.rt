@@ -1,5 +1,6 @@
 // What the register prints.
 #![tactic(auto)]
+
 ghost use Rattle.std.specs.Prelude.{◌≡◌, ◌++◌, length, IfOk, string_bytes, sum_by, OnOk};
 ghost use Rattle.files.specs.Views.{path_of, paths_of};
 ghost use Rattle.plans.specs.Opening.{plan_layout};

@@ -1,25 +1,25 @@
 -- The scene of a plan keeps what the laws ask.
-use Rattle.std.proofs.Common.{◌≡◌, ℕ, zero, suc, ◌-◌, ◌<◌, ◌≤◌, Bool, true, false, cond, eqb, ◌⊎◌, List, [], ◌∷◌, ◌++◌, map, length, get_or, Some, None, sym, refl, ap, ◌∙◌, subst, inl, inr, ⊎_elim, arith}
+use Rattle.std.proofs.Common.{◌≡◌, ℕ, zero, suc, ◌-◌, ◌<◌, ◌≤◌, Bool, true, false, cond, eqb, ◌⊎◌, List, [], ◌∷◌, length, get_or, sym, refl, ap, ◌∙◌, subst, inl, inr, ⊎_elim, arith}
 use Rattle.std.specs.List.{ContainsAt as Has, AllByRecursion as All}
 use Rattle.std.proofs.ByRecursion.{All-append, All-from_get_or, has_get_or, has_append_left, has_append_right}
 use Rattle.std.proofs.lemmas.List.{get_or_past}
 use Rattle.std.proofs.lemmas.Bool.{and_parts, and_from, eqb-true, eq-eqb, cond-true, cond-false, cases_lt}
 use Rattle.files.specs.declared.plan.Stop.{Stop}
-use Rattle.files.specs.Rules.{stop_at, path_at, PathsKeep}
+use Rattle.files.specs.Rules.{path_at, PathsKeep}
 use Rattle.meetings.specs.declared.meet.First.{First}
 use Rattle.meetings.specs.declared.meet.First.TheVariants.{Lower, Other}
 use Rattle.meetings.specs.declared.meet.Meeting.{Meeting}
 use Rattle.meetings.specs.declared.stays.At.{At}
 use Rattle.meetings.specs.Collisions.{NoCollision}
-use Rattle.meetings.specs.Laws.{StopOf, stop_of, stay_of, Meets, LeftBefore, OneFirst}
+use Rattle.meetings.specs.Laws.{StopOf, stop_of, stay_of, OneFirst}
 use Rattle.meetings.specs.Meetings.{is_left_before, meetings, meeting_between}
 use Rattle.meetings.proofs.Clashing.{path_rises, no_clash, first_law}
 use Rattle.meetings.proofs.Stands.{meetings_law}
 use Rattle.orders.specs.declared.waits.Wait.{Wait}
 use Rattle.orders.specs.Waits.{wait_under, firsts_of}
 use Rattle.orders.proofs.Zipped.{no_meeting}
-use Rattle.traffic.specs.Plans.{is_same_stop, awaited_by, awaits, named, scene_of, fresh_scene, planned_ticks, FreshRunsHaveNoRing, FullOrdersSettle}
-use Rattle.traffic.specs.Scene.{Scene, at, OnPaths, Ranks}
+use Rattle.traffic.specs.Plans.{is_same_stop, awaited_by, awaits, named, fresh_scene, planned_ticks, FreshRunsHaveNoRing, FullOrdersSettle}
+use Rattle.traffic.specs.Scene.{at, OnPaths, Ranks}
 use Rattle.traffic.proofs.Ranking.{ranked_exactly}
 
 same_stop : (a b : At) → is_same_stop a b ≡ true → a ≡ b

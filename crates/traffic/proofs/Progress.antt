@@ -1,15 +1,14 @@
 -- Progress of one step.
-use Rattle.std.proofs.Common.{◌≡◌, ℕ, zero, suc, ◌+◌, ◌-◌, ◌<◌, ◌≤◌, max, Bool, true, false, cond, ◌&&◌, ◌⊎◌, List, [], ◌∷◌, map, length, get_or, sum_by, sym, refl, ap, ◌∙◌, subst, inl, inr, ⊎_elim, add-one, arith}
-use native.Mathlib.Decide.{dec_le}
+use Rattle.std.proofs.Common.{◌≡◌, ℕ, zero, suc, ◌+◌, ◌-◌, ◌<◌, ◌≤◌, Bool, true, false, cond, List, [], ◌∷◌, map, sum_by, sym, refl, ap, ◌∙◌, subst, ⊎_elim, add-one, arith}
 use Rattle.std.specs.List.{range_with_len, ContainsAt as Has, AllByRecursion as All}
 use Rattle.std.proofs.ByRecursion.{all-has}
 use Rattle.std.proofs.lemmas.List.Sums.{sum_by_push}
 use Rattle.std.proofs.lemmas.Bool.{and_cases, leb-false, cases_Bool, cases_lt, both_ways}
 use Rattle.meetings.specs.declared.stays.At.{At}
 use Rattle.meetings.proofs.Counts.{counting_more}
-use Rattle.traffic.specs.Safety.{left, TicksNeverRaise, TicksMakeFall}
+use Rattle.traffic.specs.Safety.{TicksNeverRaise, TicksMakeFall}
 use Rattle.traffic.specs.Scene.{Scene, at, every, done, moves, tick, nobody, Numbers, number, greatest, rule, EntryTicks, OnPaths}
-use Rattle.traffic.proofs.Ranking.{Moved, moved, moves_from, below_greatest}
+use Rattle.traffic.proofs.Ranking.{moved, moves_from, below_greatest}
 
 sum_more : (f : ℕ → ℕ) (n : ℕ) → sum_by f (range_with_len 0 (suc n)) ≡ sum_by f (range_with_len 0 n) + f n
 sum_more f n = ap (λ k. sum_by f (range_with_len 0 k)) (sym (add-one n)) ∙ ap (sum_by f) (counting_more n) ∙ sum_by_push f (range_with_len 0 n) n

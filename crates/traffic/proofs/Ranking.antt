@@ -1,13 +1,13 @@
 -- Entry ticks exist exactly when there is a ranking; so what keeps a ranking makes no ring.
-use Rattle.std.proofs.Common.{◌≡◌, ℕ, zero, suc, ◌+◌, ◌-◌, ◌<◌, ◌≤◌, max, Bool, true, false, cond, not, ◌&&◌, eqb, ltb, leb, List, [], ◌∷◌, map, length, get_or, sym, refl, ap, ◌∙◌, subst, ap₂, arith}
+use Rattle.std.proofs.Common.{◌≡◌, ℕ, zero, suc, ◌+◌, ◌<◌, ◌≤◌, max, Bool, true, false, cond, not, ◌&&◌, eqb, ltb, leb, List, [], ◌∷◌, map, sym, refl, ◌∙◌, ap₂, arith}
 use native.Mathlib.Decide.{dec_le}
 use Rattle.std.specs.List.{ContainsAt as Has, AllByRecursion as All}
 use Rattle.std.proofs.ByRecursion.{All-weaker, all-has}
 use Rattle.std.proofs.lemmas.Bool.{le-leb, lt-leb, lt-ltb, ltb-true, eqb-true, eq-eqb, and_parts, and_from, not-true, not_from_false, cond-true, cond-false}
 use Rattle.meetings.specs.declared.stays.At.{At}
 use Rattle.meetings.proofs.Counts.{all_both}
-use Rattle.traffic.specs.Laws.{with_holds, with_waits, Among, RankedExactly, HoldsMakeNoRing, TicksMakeNoRing, FewerMakeNoRing}
-use Rattle.traffic.specs.Scene.{Scene, at, every, done, moves, tick, Numbers, number, greatest, own, rule, EntryTicks, NoRing, Ranks, OnPaths}
+use Rattle.traffic.specs.Laws.{with_holds, with_waits, RankedExactly, HoldsMakeNoRing, TicksMakeNoRing, FewerMakeNoRing}
+use Rattle.traffic.specs.Scene.{Scene, at, every, done, moves, tick, Numbers, number, greatest, rule, EntryTicks, Ranks, OnPaths}
 
 pub below_greatest : (e : Numbers) (l : List At) → All (λ a. number e a ≤ greatest (map (number e) l)) l
 below_greatest e [] = tt

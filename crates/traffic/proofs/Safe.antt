@@ -1,12 +1,12 @@
 -- Safety of one step.
-use Rattle.std.proofs.Common.{◌≡◌, ℕ, suc, ◌+◌, ◌<◌, ◌≤◌, Bool, true, false, cond, List, [], ◌∷◌, refl, subst, ⊎_elim, arith}
+use Rattle.std.proofs.Common.{◌≡◌, ℕ, suc, ◌+◌, ◌≤◌, Bool, true, false, cond, List, [], ◌∷◌, refl, subst, ⊎_elim, arith}
 use native.Mathlib.Decide.{dec_le}
 use Rattle.std.specs.List.{ContainsAt as Has, AllByRecursion as All}
 use Rattle.std.proofs.ByRecursion.{All-weaker, all-has}
 use Rattle.std.proofs.lemmas.Bool.{and_parts, leb-true}
 use Rattle.meetings.specs.declared.stays.At.{At}
-use Rattle.traffic.specs.Safety.{Waited, TicksKeepWaits, ChangesKeepWaits, NoTwoInOnePlace, NoneFollows}
-use Rattle.traffic.specs.Scene.{Scene, at, every, done, moves, tick}
+use Rattle.traffic.specs.Safety.{TicksKeepWaits, ChangesKeepWaits, NoTwoInOnePlace, NoneFollows}
+use Rattle.traffic.specs.Scene.{Scene, at, every, done, moves}
 use Rattle.traffic.proofs.Ranking.{moved}
 
 every-done : (c : Scene) (l : List At) → every (done c) l ≡ true → All (λ b. b.stop ≤ c.entered b.shuttle) l

@@ -1,13 +1,13 @@
 -- After an undisturbed tick every entry tick is one less, down to 0; so n ticks bring a shuttle to the stops whose entry tick is at most n.
-use Rattle.std.proofs.Common.{◌≡◌, ℕ, zero, suc, ◌+◌, ◌-◌, ◌<◌, ◌≤◌, max, Bool, true, false, cond, ◌&&◌, eqb, ltb, leb, List, [], ◌∷◌, map, sym, refl, ap, ◌∙◌, subst, ap₂, arith}
+use Rattle.std.proofs.Common.{◌≡◌, ℕ, zero, suc, ◌+◌, ◌-◌, ◌<◌, ◌≤◌, Bool, true, false, cond, eqb, List, [], ◌∷◌, map, sym, refl, ◌∙◌, subst, arith}
 use native.Mathlib.Decide.{dec_le}
 use Rattle.std.specs.List.{AllByRecursion as All}
 use Rattle.std.proofs.lemmas.Bool.{le-leb, leb-true, and_parts, and_from, both_ways}
 use Rattle.std.proofs.lemmas.Bool.Decides.{nat_tests}
 use Rattle.meetings.specs.declared.stays.At.{At}
 use Rattle.traffic.specs.Laws.{TicksAreEntryTicks}
-use Rattle.traffic.specs.Scene.{Scene, at, every, done, moves, tick, nobody, ticks, Numbers, number, greatest, own, rule, EntryTicks, OnPaths}
-use Rattle.traffic.proofs.Ranking.{Moved, moved, moves_from, tick_within}
+use Rattle.traffic.specs.Scene.{Scene, at, every, done, moves, tick, nobody, Numbers, number, greatest, own, rule, EntryTicks, OnPaths}
+use Rattle.traffic.proofs.Ranking.{moved, moves_from, tick_within}
 
 -- every number one less, down to 0
 abbrev pub less : Numbers → Numbers

@@ -1,8 +1,8 @@
 -- The laws of traffic.
-use Rattle.std.specs.Prelude.{◌≡◌, ℕ, zero, suc, ◌+◌, ◌-◌, ◌<◌, ◌≤◌, Bool, true, ◌⊎◌, List}
+use Rattle.std.specs.Prelude.{◌≡◌, ℕ, suc, ◌<◌, ◌≤◌, Bool, List}
 use Rattle.std.specs.List.{ContainsAt as Has, AllByRecursion as All}
 use Rattle.meetings.specs.declared.stays.At.{At}
-use Rattle.traffic.specs.Scene.{Scene, at, moves, tick, nobody, ticks, Numbers, number, EntryTicks, NoRing, Ranks, OnPaths}
+use Rattle.traffic.specs.Scene.{Scene, at, tick, ticks, Numbers, number, EntryTicks, NoRing, Ranks, OnPaths}
 
 -- the same shuttles with other holds, and with other waits
 abbrev pub with_holds : Scene → (ℕ → ℕ) → Scene

@@ -1,5 +1,6 @@
 // The laws of traffic, each on the contract of a function.
 #![tactic(auto)]
+
 ghost use Rattle.traffic.specs.Laws.{EntryTicksAgree, RankedExactly, HoldsMakeNoRing, TicksMakeNoRing, FewerMakeNoRing, TicksAreEntryTicks, MoreIsLater, SatisfiedIsSame};
 ghost use Rattle.traffic.specs.Plans.{FreshRunsHaveNoRing, FullOrdersSettle};
 ghost use Rattle.traffic.specs.Safety.{TicksKeepWaits, ChangesKeepWaits, NoTwoInOnePlace, NoneFollows, TicksNeverRaise, TicksMakeFall};

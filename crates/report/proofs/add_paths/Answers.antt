@@ -1,4 +1,4 @@
-use Rattle.std.proofs.Common.{◌≡◌, ◌<◌, List, [], ◌++◌, length, get_or, string_bytes, sym, ap, ◌∙◌, arith}
+use Rattle.std.proofs.Common.{◌≡◌, ◌<◌, [], ◌++◌, length, get_or, string_bytes, sym, ap, ◌∙◌, arith}
 use Rattle.std.proofs.lemmas.List.{length-map}
 use Rattle.files.specs.Views.{path_of, paths_of}
 use Rattle.files.proofs.Paths.{path_read}
@@ -13,7 +13,7 @@ loop-shuttle-preserved c =
     let paths = paths_of items in
     let here : get_or paths i [] ≡ path_of c.path-item.result = path_read items i c.path-item.result c.loop-shuttle-test.true c.path-item.is in
     let lt : i < length paths = omega (arith, length-map items path_of) in
-    lines_more paths i _ c.as-str.result.now _ _ lt c.loop-shuttle.invariant (c.as-str.ensures.value ∙ c.in-ok-line.ensures ∙ ap (path_text i) (sym here)) c.in-ok-push-str.ensures.bytes
+    lines_more paths i _ c.as_str.result.now _ _ lt c.loop-shuttle.invariant (c.as_str.ensures.value ∙ c.in_ok-line.ensures ∙ ap (path_text i) (sym here)) c.in_ok-push_str.ensures.bytes
 
 pub returns : goal.returns
 returns c =

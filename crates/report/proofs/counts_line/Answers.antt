@@ -15,7 +15,7 @@ pub returns : goal.returns
 returns c =
     let plan = c.args.plan.now in
     let shuttles : length c.paths.result.now ≡ length (paths_of (vec_items plan.paths)) = ap length c.paths.ensures ∙ sym (length-map (vec_items plan.paths) path_of) in
-    let stops : c.stop-total-stops.result ≡ sum_by length (paths_of (vec_items plan.paths)) = c.stop-total-stops.ensures ∙ ap (λ ps. sum_by length (paths_of ps)) c.paths-2.ensures in
+    let stops : c.stop_total-stops.result ≡ sum_by length (paths_of (vec_items plan.paths)) = c.stop_total-stops.ensures ∙ ap (λ ps. sum_by length (paths_of ps)) c.paths-2.ensures in
     let tables = ap length c.tables.ensures in
     let meetings = ap length c.meetings.ensures in
-    c.in-ok-text.ensures.ok ∙ pieces _ _ _ _ ∙ (λ i. codes "plan" ++ spaced (shuttles i) ++ spaced (stops i) ++ spaced (tables i) ++ spaced (meetings i) ++ end_line)
+    c.in_ok-text.ensures.ok ∙ pieces _ _ _ _ ∙ (λ i. codes "plan" ++ spaced (shuttles i) ++ spaced (stops i) ++ spaced (tables i) ++ spaced (meetings i) ++ end_line)

@@ -7,4 +7,4 @@ regroup a b c d e f = simp append_assoc
 
 pub returns : goal.returns
 returns c =
-    c.in-ok-text.ensures.ok ∙ regroup (codes "orders.bin: ") (decimal c.args.meetings) (codes " meetings, ") (decimal c.args.bytes) (codes " bytes") end_line
+    c.in_ok-text.ensures.ok ∙ regroup (codes "orders.bin: ") (decimal c.args.meetings) (codes " meetings, ") (decimal c.args.bytes) (codes " bytes") end_line

@@ -11,7 +11,7 @@ loop-path-preserved c =
     let lt : c.loop-path.path-index < length paths = omega (arith, length-map c.args.paths.now path_of) in
     let more = sum_by_more length paths c.loop-path.path-index [] lt in
     let here : length (get_or paths c.loop-path.path-index []) ≡ c.len.result = ap length (path_read c.args.paths.now c.loop-path.path-index c.path-item.result c.loop-path-test.true c.path-item.is) ∙ sym (c.len.ensures ∙ c.path-item.result.stops.ok.0) in
-    (omega arith, omega (arith, c.len.type-inv))
+    (omega arith, omega (arith, c.len.type_inv))
 
 pub returns : goal.returns
 returns c =

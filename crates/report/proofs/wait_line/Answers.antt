@@ -8,5 +8,5 @@ regroup a b c d e f g h i = simp append_assoc
 pub returns : goal.returns
 returns c =
     let w = c.args.wait.now in
-    c.in-ok-text.ensures.ok
+    c.in_ok-text.ensures.ok
     ∙ regroup (codes "stop ") (decimal w.second.stop) (codes " of shuttle ") (decimal w.second.shuttle) (codes " waits for stop ") (decimal w.awaited.stop) (codes " of shuttle ") (decimal w.awaited.shuttle) end_line
