@@ -4,6 +4,7 @@
 //   > HEX      an order file for the last plan that was taken: who goes first at each meeting, or that it is none
 //   = N        the last plan's order file, written into a buffer of N bytes that held 170 (hexadecimal aa) throughout
 #![tactic(auto)]
+
 use meetings::meet::First;
 use orders::read::read_orders;
 use orders::waits::plan_firsts;

@@ -1,5 +1,6 @@
 // Reads plan.bin in the folder it runs in, writes the order file of its own orders beside it, and prints the plan, or why it is refused. A file that cannot be read counts as empty.
 #![tactic(auto)]
+
 use anyhow::anyhow;
 use orders::waits::plan_firsts;
 use orders::write::write_orders;
