@@ -1,15 +1,14 @@
 -- One stop more gets its entry tick.
-use Rattle.std.proofs.Common.{◌≡◌, ℕ, zero, suc, ◌+◌, ◌-◌, ◌*◌, ◌<◌, ◌≤◌, max, List, [], ◌∷◌, map, length, get_or, set, sum, sym, refl, ap, ◌∙◌, subst, inl, inr, arith}
-use Rattle.std.specs.List.{AllByRecursion as All}
+use Rattle.std.proofs.Common.{◌≡◌, ℕ, suc, ◌+◌, ◌*◌, ◌<◌, ◌≤◌, List, [], length, get_or, set, sum, sym, ap, ◌∙◌, subst, inl, inr, arith}
 use Rattle.std.proofs.ByRecursion.{All-get_or, All-set}
-use Rattle.std.proofs.lemmas.List.{length-set, get_or-set_same, get_or-set_other, get_or_default}
+use Rattle.std.proofs.lemmas.List.{length-set, get_or-set_same, get_or-set_other}
 use Rattle.std.proofs.lemmas.List.Sums.{sum_by-set}
 use Rattle.std.proofs.lemmas.Bool.{cases_eq}
-use Rattle.traffic.specs.Scene.{Scene, at, Numbers, rule}
-use Rattle.traffic.specs.Sweep.{Ready, Sofar}
+use Rattle.traffic.specs.Scene.{Scene, at, rule}
+use Rattle.traffic.specs.Sweep.{Ready}
 use Rattle.traffic.proofs.Sweep.{sofar_advance, sofar_bound}
 use Rattle.floor.specs.Parts.{Known, Advanced}
-use Rattle.floor.specs.Sweeps.{Grid, known_in, numbers_in}
+use Rattle.floor.specs.Sweeps.{known_in, numbers_in}
 
 module _ (rows : List (List ℕ)) (s i v : ℕ) (lt : s < length rows) (wide : i < length (get_or rows s [])) where
   abbrev put : List (List ℕ)

@@ -1,21 +1,17 @@
 -- The beginning and the end of a sweep.
-use Rattle.std.proofs.Common.{◌≡◌, ℕ, zero, suc, ◌+◌, ◌-◌, ◌*◌, ◌<◌, ◌≤◌, Bool, true, false, List, [], ◌∷◌, length, get_or, set, replicate, vec_items, sum, sym, refl, ap, ◌∙◌, subst, inl, inr, arith}
-use mathlib.Core.Logic.{∥∥₁_elim}
-use native.Mathlib.Bridge.{le_prop}
-use Rattle.std.specs.List.{AllByRecursion as All}
-use Rattle.std.proofs.ByRecursion.{All-from_get_or, All-get_or}
+use Rattle.std.proofs.Common.{◌≡◌, ℕ, suc, ◌+◌, ◌-◌, ◌<◌, ◌≤◌, true, false, List, [], length, get_or, set, replicate, sum, sym, ap, ◌∙◌, inl, inr, arith}
+use Rattle.std.proofs.ByRecursion.{All-from_get_or}
 use Rattle.std.proofs.lemmas.List.{length-set, get_or-set_same, get_or-set_other, get_or-replicate, get_or_past, length-replicate}
 use Rattle.std.proofs.lemmas.Bool.{cases_eq, cases_lt}
 use Rattle.files.specs.declared.plan.Stop.{Stop}
 use Rattle.files.specs.Rules.{path_at}
 use Rattle.traffic.specs.Scene.{Scene, Numbers}
-use Rattle.traffic.specs.Sweep.{Ready, Sofar, Timed}
+use Rattle.traffic.specs.Sweep.{Timed}
 use Rattle.traffic.proofs.Sweep.{sofar_start, sofar_end, sofar_ring}
 use Rattle.floor.specs.declared.table.Shuttle.{Shuttle}
-use Rattle.floor.specs.Parts.{Known, Stuck, Swept, Ended}
-use Rattle.floor.specs.Scenes.{scene, AllPlaced}
+use Rattle.floor.specs.Parts.{Known, Swept, Ended}
 use Rattle.floor.specs.Shuttles.{fresh, shuttle_at, stop_in}
-use Rattle.floor.specs.Sweeps.{Grid, Begun, Done, Worked, known_in, numbers_in}
+use Rattle.floor.specs.Sweeps.{Begun, Done, Worked, known_in, numbers_in}
 use Rattle.floor.proofs.Sweeps.{known_total}
 
 pub begun_more : (xs : List Shuttle) (n : ℕ) (known known' : List ℕ) → n < length known → Begun xs n known known' → Begun xs (n + 1) known (set known' n ((shuttle_at xs n).stop + 1))

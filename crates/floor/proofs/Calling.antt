@@ -1,5 +1,5 @@
 -- When calls on a floor are refused.
-use Rattle.std.proofs.Common.{◌≡◌, ℕ, suc, ◌^◌, ◌<◌, ◌≤◌, Bool, true, false, cond, ltb, leb, List, [], length, set, is_some, Some, None, Option, sym, refl, ap, ◌∙◌, subst, inl, inr, arith}
+use Rattle.std.proofs.Common.{◌≡◌, ℕ, suc, ◌^◌, ◌<◌, ◌≤◌, Bool, true, false, cond, ltb, leb, List, [], length, is_some, Some, None, Option, sym, refl, ap, ◌∙◌, subst, inl, inr, arith}
 use mathlib.Core.Logic.{∥∥₁_map}
 use Rattle.std.proofs.lemmas.List.{get_or_past}
 use Rattle.std.proofs.lemmas.Bool.{lt-ltb, le-ltb, le-leb, lt-leb, cond-true, cond-false, cases_lt}
@@ -12,7 +12,7 @@ use Rattle.floor.specs.declared.table.Shuttle.{Shuttle}
 use Rattle.floor.specs.Calls.{fault_of_hold, after_hold, tick_fault}
 use Rattle.floor.specs.Next.{next_on}
 use Rattle.floor.specs.Scenes.{AllPlaced}
-use Rattle.floor.specs.Shuttles.{shuttle_at, stop_in, holding}
+use Rattle.floor.specs.Shuttles.{stop_in}
 use Rattle.floor.proofs.Scenes.{placed_hold}
 use Rattle.traffic.specs.Scene.{at}
 

@@ -1,5 +1,5 @@
 -- Calls on a floor that are carried out, and calls that are refused.
-use Rattle.std.proofs.Common.{◌≡◌, List, Some, None, Ok, Err, Option, sym, refl, ap, ◌∙◌}
+use Rattle.std.proofs.Common.{◌≡◌, List, Some, None, Ok, Err, Option, ap, ◌∙◌}
 use Rattle.floor.specs.declared.floor.Floor.{Floor}
 use Rattle.floor.specs.declared.floor.calls.FloorFault.{FloorFault}
 use Rattle.floor.specs.declared.table.Shuttle.{Shuttle}

@@ -1,12 +1,12 @@
 -- Who moves at a tick, and the word that says so.
-use Rattle.std.proofs.Common.{◌≡◌, ℕ, suc, ◌+◌, ◌*◌, ◌/◌, ◌^◌, ◌<◌, ◌≤◌, Bool, true, false, cond, not, ◌&&◌, eqb, ltb, List, [], ◌∷◌, ◌++◌, length, get_or, drop, Some, None, vec_items, MatchBool, Option, sym, refl, ap, ◌∙◌, subst, arith}
+use Rattle.std.proofs.Common.{◌≡◌, ℕ, ◌+◌, ◌*◌, ◌/◌, ◌^◌, ◌<◌, ◌≤◌, Bool, true, false, not, ◌&&◌, eqb, List, [], ◌∷◌, ◌++◌, length, get_or, drop, Some, vec_items, MatchBool, Option, sym, refl, ap, ◌∙◌, subst, arith}
 use mathlib.Core.Logic.{∥∥₁_elim}
 use native.Mathlib.Bridge.{le_prop}
 use native.Mathlib.Decide.{dec_lt}
 use native.Mathlib.Nat.{div-eq_of_lt}
 use Rattle.std.proofs.lemmas.Nat.{pow_pos, shr_split, mod_below}
 use Rattle.std.proofs.lemmas.List.{at_drop_more, length-map}
-use Rattle.std.proofs.lemmas.Bool.{ltb-true, eqb-true, eqb-false}
+use Rattle.std.proofs.lemmas.Bool.{eqb-true, eqb-false}
 use Rattle.files.specs.declared.plan.Path.{Path}
 use Rattle.files.specs.declared.plan.Stop.{Stop}
 use Rattle.files.specs.Rules.{path_at}
@@ -16,12 +16,11 @@ use Rattle.meetings.specs.declared.meet.Meeting.{Meeting}
 use Rattle.meetings.specs.declared.stays.At.{At}
 use Rattle.plans.specs.declared.plan.Plan.{Plan}
 use Rattle.orders.proofs.Sound.{few_shuttles}
-use Rattle.traffic.specs.Index.{meeting_at, order_at, meetings_at, awaited_in}
+use Rattle.traffic.specs.Index.{meeting_at, order_at, awaited_in}
 use Rattle.traffic.specs.Plans.{awaited_at}
-use Rattle.traffic.specs.Scene.{at, every}
+use Rattle.traffic.specs.Scene.{every}
 use Rattle.floor.specs.declared.index.Index.{Index}
 use Rattle.floor.specs.declared.table.Shuttles.{Shuttles}
-use Rattle.floor.specs.Indexes.{path_index, index_of}
 use Rattle.floor.specs.Next.{next_on}
 use Rattle.floor.specs.Parts.{Parts}
 use Rattle.floor.specs.Shuttles.{stop_in}

@@ -1,5 +1,5 @@
 -- What records that are on their paths keep.
-use Rattle.std.proofs.Common.{◌≡◌, ℕ, suc, ◌-◌, ◌<◌, ◌≤◌, List, [], length, Option, sym, ap, ◌∙◌, subst, inl, inr, arith}
+use Rattle.std.proofs.Common.{◌≡◌, ℕ, ◌<◌, ◌≤◌, List, length, Option, ap, inl, inr, arith}
 use mathlib.Core.Logic.{∥∥₁_elim}
 use native.Mathlib.Bridge.{le_prop}
 use Rattle.std.specs.List.{AllByRecursion as All}
@@ -11,7 +11,7 @@ use Rattle.files.specs.Rules.{path_at}
 use Rattle.meetings.specs.declared.meet.First.{First}
 use Rattle.floor.specs.declared.table.Shuttle.{Shuttle}
 use Rattle.floor.specs.Scenes.{scene, AllPlaced}
-use Rattle.floor.specs.Shuttles.{fresh, shuttle_at, stop_in}
+use Rattle.floor.specs.Shuttles.{fresh, stop_in}
 use Rattle.floor.proofs.Scenes.{placed_within}
 
 module _ (ps : List (List Stop)) (xs : List Shuttle) (placed : ∥ AllPlaced ps xs ∥₁) where

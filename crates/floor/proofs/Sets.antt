@@ -1,5 +1,5 @@
 -- Meetings and shuttle records are equal in at most one way, so that equations between lists of them follow from truncated facts.
-use Rattle.std.proofs.Common.{◌≡◌, ℕ, Bool, true, false, cond, List, sym, refl, ap, ◌∙◌}
+use Rattle.std.proofs.Common.{◌≡◌, Bool, true, false, cond, List, sym, refl, ap, ◌∙◌}
 use base.Stored.{Coded, Coded-set, coded_ℕ, coded_bool, coded×, coded_list}
 use Rattle.meetings.specs.declared.meet.First.{First}
 use Rattle.meetings.specs.declared.meet.First.TheVariants.{Lower, Other}

@@ -1,8 +1,8 @@
 -- The greatest entry tick that is waited for.
-use Rattle.std.proofs.Common.{◌≡◌, ℕ, zero, suc, ◌+◌, ◌<◌, ◌≤◌, max, List, [], ◌∷◌, ◌++◌, map, length, get_or, take, Some, None, Option, sym, refl, ap, ◌∙◌, subst, arith}
+use Rattle.std.proofs.Common.{◌≡◌, ℕ, zero, suc, ◌+◌, ◌<◌, ◌≤◌, max, List, [], ◌∷◌, ◌++◌, map, length, get_or, take, Some, Option, sym, ap, ◌∙◌, subst, arith}
 use Rattle.std.specs.Option.{option_to_list}
 use Rattle.std.specs.List.{AllByRecursion as All}
-use Rattle.std.proofs.ByRecursion.{All-get_or, All-append}
+use Rattle.std.proofs.ByRecursion.{All-append}
 use Rattle.std.proofs.lemmas.List.{get_or_default, take_more, append-nil}
 use Rattle.meetings.specs.declared.meet.First.{First}
 use Rattle.meetings.specs.declared.meet.Meeting.{Meeting}
@@ -12,7 +12,7 @@ use Rattle.traffic.specs.Plans.{awaited_at}
 use Rattle.traffic.specs.Scene.{Numbers, number, greatest}
 use Rattle.traffic.specs.Sweep.{Ready}
 use Rattle.traffic.proofs.Indexed.{awaited_in_append}
-use Rattle.floor.specs.Sweeps.{Later, known_in, numbers_in}
+use Rattle.floor.specs.Sweeps.{Later, known_in}
 
 pub known_read : (known : List ℕ) (s : ℕ) → s < length known → get_or known s 0 ≡ known_in known s
 known_read known s lt = get_or_default known s 0 1 lt

@@ -1,5 +1,5 @@
 -- Sweeps over the shuttles: more is known each time, or nobody can advance.
-use Rattle.std.proofs.Common.{◌≡◌, ℕ, suc, ◌+◌, ◌-◌, ◌*◌, ◌<◌, ◌≤◌, Bool, true, false, List, MatchBool, sum, sym, refl, ap, ◌∙◌, subst, inl, inr, arith}
+use Rattle.std.proofs.Common.{ℕ, ◌+◌, ◌-◌, ◌<◌, ◌≤◌, Bool, true, false, List, MatchBool, sum, sym, ◌∙◌, subst, inl, inr, arith}
 use Rattle.std.proofs.ByRecursion.{sum_by_le}
 use Rattle.std.proofs.lemmas.Bool.{cases_eq}
 use Rattle.traffic.specs.Scene.{Scene}

@@ -1,6 +1,5 @@
 -- A plan with its index and the records of its shuttles, and the entry ticks that are known of them.
-use Rattle.std.specs.Prelude.{◌≡◌, ℕ, ◌+◌, ◌*◌, ◌<◌, ◌≤◌, Bool, List, length, vec_items, MatchBool, sum, Option}
-use Rattle.files.specs.declared.plan.Stop.{Stop}
+use Rattle.std.specs.Prelude.{◌≡◌, ℕ, ◌*◌, ◌<◌, ◌≤◌, Bool, List, length, vec_items, MatchBool, sum, Option}
 use Rattle.files.specs.Views.{paths_of}
 use Rattle.meetings.specs.declared.meet.First.{First}
 use Rattle.plans.specs.declared.plan.Plan.{Plan}

@@ -1,4 +1,4 @@
-use Rattle.std.proofs.Common.{◌≡◌, ℕ, ◌+◌, ◌-◌, ◌<◌, ◌≤◌, List, length, get_or, set, vec_items, sym, refl, ap, ◌∙◌, subst, arith, rules}
+use Rattle.std.proofs.Common.{ℕ, ◌+◌, ◌-◌, ◌<◌, List, length, set, vec_items, sym, subst, arith, rules}
 use Rattle.files.specs.Rules.{path_at}
 use Rattle.files.specs.Views.{paths_of}
 use Rattle.meetings.specs.Meetings.{meetings}
@@ -8,8 +8,8 @@ use Rattle.floor.specs.Parts.{scene_with, Advanced}
 use Rattle.floor.proofs.Stepping.{few, recorded, stuck_at_end, shuttle_is, stop_is, stop_on, stop_low, stuck_by, advanced, known_small, greatest_most}
 use Rattle.floor.proofs.entry.advance.Goals as goal
 
-pub first-unknown-requires : goal.first-unknown-requires
-first-unknown-requires c = record {
+pub first_unknown-requires : goal.first_unknown-requires
+first_unknown-requires c = record {
   shuttle = c.requires.shuttle;
   count = c.requires.known.count;
   begun = omega (arith, c.requires.known.sofar.begun c.args.shuttle);
@@ -31,8 +31,8 @@ ready-requires c =
 pub get-requires : goal.get-requires
 get-requires c = recorded c.args.plan.now c.args.index.now c.args.shuttles.now c.args.orders.now c.args.known.now c.args.ticks.now c.args.shuttle c.requires.parts c.requires.shuttle c.requires.known
 
-pub entry-tick-tick-requires : goal.entry-tick-tick-requires
-entry-tick-tick-requires c =
+pub entry_tick-tick-requires : goal.entry_tick-tick-requires
+entry_tick-tick-requires c =
     let s≡ = shuttle_is c.args.plan.now c.args.index.now c.args.shuttles.now c.args.orders.now c.args.known.now c.args.ticks.now c.args.shuttle c.requires.parts c.requires.shuttle c.requires.known c.in-Some.at c.in-Some.ensures in
     let i≡ = stop_is c.args.plan.now c.args.index.now c.args.shuttles.now c.args.orders.now c.args.known.now c.args.ticks.now c.args.shuttle c.requires.parts c.requires.shuttle c.requires.known c.in-Some.at c.in-Some.ensures in
     let low = stop_low c.args.plan.now c.args.index.now c.args.shuttles.now c.args.orders.now c.args.known.now c.args.ticks.now c.args.shuttle c.requires.parts c.requires.shuttle c.requires.known c.in-Some.at c.in-Some.ensures in
@@ -46,8 +46,8 @@ entry-tick-tick-requires c =
       latest = omega (arith, c.in-Some-ready.ensures.1, greatest_most (numbers_in c.args.ticks.now) 8388608 (awaits (meetings (paths_of (vec_items c.args.plan.now.paths))) c.args.orders.now c.in-Some.at) small);
     }
 
-pub put-tick-requires : goal.put-tick-requires
-put-tick-requires c =
+pub put_tick-requires : goal.put_tick-requires
+put_tick-requires c =
     let s≡ = shuttle_is c.args.plan.now c.args.index.now c.args.shuttles.now c.args.orders.now c.args.known.now c.args.ticks.now c.args.shuttle c.requires.parts c.requires.shuttle c.requires.known c.in-Some.at c.in-Some.ensures in
     let lt = few c.args.plan.now c.args.index.now c.args.shuttles.now c.args.orders.now c.args.known.now c.args.ticks.now c.args.shuttle c.requires.parts c.requires.shuttle c.requires.known in
     record {
@@ -64,6 +64,6 @@ returns-in-None-ready c = ((search rules, search rules), stuck_by c.args.plan.no
 
 pub returns-in-Some-ready : goal.returns-in-Some-ready
 returns-in-Some-ready c =
-    let done = advanced c.args.plan.now c.args.index.now c.args.shuttles.now c.args.orders.now c.args.known.now c.args.ticks.now c.args.shuttle c.requires.parts c.requires.shuttle c.requires.known c.in-Some.at c.in-Some.ensures c.get.result c.entry-tick-tick.result c.in-Some-ready.latest c.get.ensures c.in-Some-ready.ensures.0 c.in-Some-ready.ensures.1 c.entry-tick-tick.ensures in
-    subst (λ (k : List ℕ). Advanced (scene_with c.args.plan.now c.args.shuttles.now c.args.orders.now) c.args.known.now k c.put-tick.new.ticks) (sym c.put-tick.ensures.known)
-    (subst (λ (r : List (List ℕ)). Advanced (scene_with c.args.plan.now c.args.shuttles.now c.args.orders.now) c.args.known.now (set c.args.known.now c.in-Some.at.shuttle (c.in-Some.at.stop + 1)) r) (sym c.put-tick.ensures.ticks) done)
+    let done = advanced c.args.plan.now c.args.index.now c.args.shuttles.now c.args.orders.now c.args.known.now c.args.ticks.now c.args.shuttle c.requires.parts c.requires.shuttle c.requires.known c.in-Some.at c.in-Some.ensures c.get.result c.entry_tick-tick.result c.in-Some-ready.latest c.get.ensures c.in-Some-ready.ensures.0 c.in-Some-ready.ensures.1 c.entry_tick-tick.ensures in
+    subst (λ (k : List ℕ). Advanced (scene_with c.args.plan.now c.args.shuttles.now c.args.orders.now) c.args.known.now k c.put_tick.new.ticks) (sym c.put_tick.ensures.known)
+    (subst (λ (r : List (List ℕ)). Advanced (scene_with c.args.plan.now c.args.shuttles.now c.args.orders.now) c.args.known.now (set c.args.known.now c.in-Some.at.shuttle (c.in-Some.at.stop + 1)) r) (sym c.put_tick.ensures.ticks) done)

@@ -1,4 +1,4 @@
-use Rattle.std.proofs.Common.{◌≡◌, ℕ, ◌+◌, ◌<◌, ◌≤◌, List, length, set, vec_items, sym, refl, ap, ◌∙◌, subst, arith}
+use Rattle.std.proofs.Common.{◌+◌, ◌<◌, set, vec_items, sym, refl, ap, subst, arith}
 use Rattle.std.proofs.ByRecursion.{All-get_or}
 use Rattle.floor.specs.declared.table.Shuttle.{Shuttle}
 use Rattle.floor.specs.Shuttles.{fresh, shuttle_at}
@@ -6,8 +6,8 @@ use Rattle.floor.specs.Sweeps.{Begun}
 use Rattle.floor.proofs.Beginning.{begun_more}
 use Rattle.floor.proofs.entry.begin.Goals as goal
 
-pub overflow-add-known : goal.overflow-add-known
-overflow-add-known c =
+pub overflow_add-known : goal.overflow_add-known
+overflow_add-known c =
     let xs = vec_items c.args.shuttles.now.records in
     let low : (shuttle_at xs c.loop-shuttle.shuttle).stop < 64 = All-get_or _ xs c.loop-shuttle.shuttle fresh (omega (arith, c.loop-shuttle-test.true, c.len-shuttle-end.ensures)) c.requires.low in
     omega (arith, ap (λ (x : Shuttle). x.stop) c.get.ensures, low)

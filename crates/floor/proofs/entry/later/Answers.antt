@@ -1,4 +1,4 @@
-use Rattle.std.proofs.Common.{◌≡◌, ◌<◌, ◌≤◌, [], length, get_or, ap, ◌∙◌, arith, rules}
+use Rattle.std.proofs.Common.{◌<◌, ◌≤◌, length, get_or, arith}
 use Rattle.std.proofs.ByRecursion.{All-get_or}
 use Rattle.floor.specs.Sweeps.{numbers_in}
 use Rattle.floor.proofs.Sweeping.{later_not, later_is, listed_one}
@@ -16,8 +16,8 @@ bounds-ticks-at-else-known-at c =
     let most : get_or k c.in-Some.at.shuttle 0 ≤ 64 = All-get_or (λ n. n ≤ 64) k c.in-Some.at.shuttle 0 lt c.requires.grid.within in
     omega (arith, most, c.if-known-at.false)
 
-pub offset-bounds-ticks-at-in-Some : goal.offset-bounds-ticks-at-in-Some
-offset-bounds-ticks-at-in-Some c =
+pub offset_bounds-ticks-at-in-Some : goal.offset_bounds-ticks-at-in-Some
+offset_bounds-ticks-at-in-Some c =
     let k = c.args.known.now in
     let lt = listed_one (λ a. a.shuttle < length k) _ _ c.in-Some.is c.requires.shuttle in
     let most : get_or k c.in-Some.at.shuttle 0 ≤ 64 = All-get_or (λ n. n ≤ 64) k c.in-Some.at.shuttle 0 lt c.requires.grid.within in

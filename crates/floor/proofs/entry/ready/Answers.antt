@@ -1,12 +1,11 @@
-use Rattle.std.proofs.Common.{◌≡◌, ℕ, ◌<◌, List, length, vec_items, sym, ap, ◌∙◌, subst, arith, rules}
+use Rattle.std.proofs.Common.{◌≡◌, ◌<◌, List, length, vec_items, sym, ap, ◌∙◌, subst, arith}
 use Rattle.std.specs.List.{AllByRecursion as All}
 use Rattle.std.proofs.lemmas.List.{length-map}
 use Rattle.files.specs.Views.{path_of, paths_of}
 use Rattle.meetings.specs.declared.meet.Meeting.{Meeting}
-use Rattle.meetings.specs.declared.stays.At.{At}
 use Rattle.meetings.specs.Meetings.{meetings}
 use Rattle.orders.proofs.Sound.{few_shuttles}
-use Rattle.traffic.specs.Index.{meetings_at, awaited_in}
+use Rattle.traffic.specs.Index.{awaited_in}
 use Rattle.traffic.specs.Plans.{awaits}
 use Rattle.traffic.proofs.Indexed.{awaits_indexed, kept_below}
 use Rattle.floor.specs.Indexes.{plan_lists}

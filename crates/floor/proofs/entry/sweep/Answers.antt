@@ -1,9 +1,9 @@
-use Rattle.std.proofs.Common.{◌≡◌, ◌+◌, Bool, true, false, List, length, vec_items, sym, refl, ap, ◌∙◌, subst, arith}
+use Rattle.std.proofs.Common.{◌+◌, Bool, List, length, sym, ap, subst, arith}
 use Rattle.files.specs.declared.plan.Path as plan
-use Rattle.floor.specs.Parts.{scene_with, Swept, Ran}
+use Rattle.floor.specs.Parts.{scene_with, Swept}
 use Rattle.floor.proofs.Sweeps.{swept_on, swept_rest}
 use Rattle.floor.proofs.entry.sweep.Goals as goal
-use Rattle.floor.proofs.entry.sweep.Goals.{then-run-ahead, else-run-ahead}
+use Rattle.floor.proofs.entry.sweep.Goals.{then-run_ahead, else-run_ahead}
 
 pub loop-shuttle-preserved : goal.loop-shuttle-preserved
 loop-shuttle-preserved c =
@@ -12,11 +12,11 @@ loop-shuttle-preserved c =
     let k₀ = c.args.known.now in
     let k₁ = c.loop-shuttle.known in
     let r₁ = c.loop-shuttle.ticks in
-    let k₂ = c.run-ahead.new.known in
-    let r₂ = c.run-ahead.new.ticks in
-    elim c.if-run-ahead.branch [
-      | then-run-ahead w ↦ subst (λ (b : Bool). Swept b s (n + 1) k₀ k₂ r₂) (sym w.advanced-is) (swept_on s k₀ c.args.ticks.now k₁ r₁ k₂ r₂ c.loop-shuttle.advanced n c.loop-shuttle.invariant w.if-run-ahead.ensures)
-      | else-run-ahead w ↦ subst (λ (b : Bool). Swept b s (n + 1) k₀ k₂ r₂) (sym w.advanced-is) (swept_rest s k₀ c.args.ticks.now k₁ r₁ k₂ r₂ c.loop-shuttle.advanced n c.loop-shuttle.invariant w.if-run-ahead.ensures)
+    let k₂ = c.run_ahead.new.known in
+    let r₂ = c.run_ahead.new.ticks in
+    elim c.if-run_ahead.branch [
+      | then-run_ahead w ↦ subst (λ (b : Bool). Swept b s (n + 1) k₀ k₂ r₂) (sym w.advanced-is) (swept_on s k₀ c.args.ticks.now k₁ r₁ k₂ r₂ c.loop-shuttle.advanced n c.loop-shuttle.invariant w.if-run_ahead.ensures)
+      | else-run_ahead w ↦ subst (λ (b : Bool). Swept b s (n + 1) k₀ k₂ r₂) (sym w.advanced-is) (swept_rest s k₀ c.args.ticks.now k₁ r₁ k₂ r₂ c.loop-shuttle.advanced n c.loop-shuttle.invariant w.if-run_ahead.ensures)
     ]
 
 pub returns : goal.returns

@@ -16,8 +16,8 @@ use Rattle.floor.proofs.moves.all_entered.Goals.{After-awaited}
 pub awaited-requires : goal.awaited-requires
 awaited-requires c = All-get_or _ c.args.meetings.now c.loop-meeting.meeting-index 0 c.loop-meeting-test.true c.requires.within
 
-pub is-entered-requires : goal.is-entered-requires
-is-entered-requires c =
+pub is_entered-requires : goal.is_entered-requires
+is_entered-requires c =
     let plan = c.args.plan.now in
     let ms = vec_items plan.meetings in
     let ps = paths_of (vec_items plan.paths) in
@@ -27,7 +27,7 @@ is-entered-requires c =
     let lt : get_or js i 0 < length ms = All-get_or _ js i 0 c.loop-meeting-test.true c.requires.within in
     let many : length ps ≤ n = omega (arith, c.requires.many, paths_count plan) in
     subst (ShuttlesBelow n) (sym c.awaited.ensures)
-    (All-weaker _ (λ (a : At). a.shuttle < n) (λ a h. omega (arith, many, h)) _ (awaited_shuttle ps (vec_items plan.tables) ms plan.sound c.args.at (get_or js i 0) lt c.order-at-order.result))
+    (All-weaker _ (λ (a : At). a.shuttle < n) (λ a h. omega (arith, many, h)) _ (awaited_shuttle ps (vec_items plan.tables) ms plan.sound c.args.at (get_or js i 0) lt c.order_at-order.result))
 
 -- what is entered of this meeting and of those behind it
 here :
@@ -38,14 +38,14 @@ here c b e =
     let ms = vec_items c.args.plan.now.meetings in
     let js = c.args.meetings.now in
     let i = c.loop-meeting.meeting-index in
-    sym (every_next (entered_in (vec_items c.args.shuttles.now.records)) ms c.args.orders.now c.args.at js i c.loop-meeting-test.true _ (c.awaited.ensures ∙ ap (awaited_at c.args.at (meeting_at ms (get_or js i 0))) c.order-at-order.ensures) b e)
+    sym (every_next (entered_in (vec_items c.args.shuttles.now.records)) ms c.args.orders.now c.args.at js i c.loop-meeting-test.true _ (c.awaited.ensures ∙ ap (awaited_at c.args.at (meeting_at ms (get_or js i 0))) c.order_at-order.ensures) b e)
     ∙ c.loop-meeting.invariant
 
-pub returns-then-not-is-entered : goal.returns-then-not-is-entered
-returns-then-not-is-entered c = here (goal.at.returns-then-not-is-entered c).After-awaited false c.if-not-is-entered.ensures
+pub returns-then-not-is_entered : goal.returns-then-not-is_entered
+returns-then-not-is_entered c = here (goal.at.returns-then-not-is_entered c).After-awaited false c.if-not-is_entered.ensures
 
 pub loop-meeting-preserved : goal.loop-meeting-preserved
-loop-meeting-preserved c = here (goal.at.loop-meeting-preserved c).After-awaited true c.if-not-is-entered.ensures
+loop-meeting-preserved c = here (goal.at.loop-meeting-preserved c).After-awaited true c.if-not-is_entered.ensures
 
 pub returns : goal.returns
 returns c =

@@ -28,8 +28,8 @@ at-requires c =
     let lt : c.args.at.shuttle < length ps = omega (arith, c.requires.shuttle, paths_count plan) in
     record { shuttle = index_shuttle rows ms ps c.requires.indexed c.args.at.shuttle lt; stop = index_stop rows ms ps c.requires.indexed c.args.at.shuttle lt c.args.at.stop c.requires.stop }
 
-pub all-entered-requires : goal.all-entered-requires
-all-entered-requires c =
+pub all_entered-requires : goal.all_entered-requires
+all_entered-requires c =
     let ms = vec_items c.args.plan.now.meetings in
     record { within = subst (AllBelow (length ms)) (sym (found c)) (kept_below ms c.args.at); many = c.requires.many }
 
@@ -40,7 +40,7 @@ returns c =
     let orders = c.args.orders.now in
     let a = c.args.at in
     let p = entered_in (vec_items c.args.shuttles.now.records) in
-    c.all-entered.ensures
+    c.all_entered.ensures
     ∙ ap (λ (js : List ℕ). every p (awaited_in ms orders a js)) (found (goal.at.returns c).After-at)
     ∙ ap (every p) (sym (awaits_indexed ms orders a))
     ∙ ap (λ (l : List Meeting). every p (awaits l orders a)) (listed_of (paths_of (vec_items plan.paths)) (vec_items plan.tables) ms plan.sound)

@@ -22,14 +22,14 @@ more named w k b is e = ap₂ (λ (x : ℕ) (y : Bool). x + cond y (2 ^ k) 0) is
 same : (w : ℕ) → w ≡ w + 0
 same w = omega arith
 
-pub overflow-cast-word : goal.overflow-cast-word
-overflow-cast-word c = let lt : c.loop-shuttle.shuttle < 32 = path_number c.args.plan.now _ _ c.paths-shuttle-end.ensures c.loop-shuttle-test.true in omega arith
+pub overflow_cast-word : goal.overflow_cast-word
+overflow_cast-word c = let lt : c.loop-shuttle.shuttle < 32 = path_number c.args.plan.now _ _ c.paths-shuttle-end.ensures c.loop-shuttle-test.true in omega arith
 
-pub overflow-shl-word : goal.overflow-shl-word
-overflow-shl-word c = path_number c.args.plan.now _ _ c.paths-shuttle-end.ensures c.loop-shuttle-test.true
+pub overflow_shl-word : goal.overflow_shl-word
+overflow_shl-word c = path_number c.args.plan.now _ _ c.paths-shuttle-end.ensures c.loop-shuttle-test.true
 
-pub overflow-add-word : goal.overflow-add-word
-overflow-add-word c =
+pub overflow_add-word : goal.overflow_add-word
+overflow_add-word c =
     let fits = room _ c.loop-shuttle.word c.loop-shuttle.shuttle c.loop-shuttle.invariant (path_number c.args.plan.now _ _ c.paths-shuttle-end.ensures c.loop-shuttle-test.true) in
     omega (arith, fits)
 

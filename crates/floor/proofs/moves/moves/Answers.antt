@@ -10,14 +10,14 @@ get-one-requires c = omega (arith, c.requires.shuttle, enough_records c.args.pla
 pub names-requires : goal.names-requires
 names-requires c = omega (arith, c.requires.shuttle, few_paths c.args.plan.now)
 
-pub next-stop-requires : goal.next-stop-requires
-next-stop-requires c = record {
+pub next_stop-requires : goal.next_stop-requires
+next_stop-requires c = record {
   shuttle = c.requires.shuttle;
   stop = omega (arith, ap (λ (x : Shuttle). x.stop) c.get-one.ensures, record_small c.args.plan.now c.args.index.now c.args.shuttles.now c.requires.parts c.args.shuttle c.requires.shuttle);
 }
 
-pub is-clear-requires : goal.is-clear-requires
-is-clear-requires c =
+pub is_clear-requires : goal.is_clear-requires
+is_clear-requires c =
     let on = next_within (paths_of (vec_items c.args.plan.now.paths)) _ c.in-Some.at c.in-Some.ensures in
     record {
       indexed = c.requires.parts.indexed;

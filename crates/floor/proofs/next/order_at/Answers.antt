@@ -1,4 +1,4 @@
-use Rattle.std.proofs.Common.{◌≡◌, None, sym, ap, ◌∙◌}
+use Rattle.std.proofs.Common.{None, sym}
 use Rattle.std.proofs.lemmas.List.{get_or_past}
 use Rattle.floor.proofs.next.order_at.Goals as goal
 

@@ -1,7 +1,7 @@
-use Rattle.std.proofs.Common.{◌≡◌, List, length, get_or, vec_items, sym, ap, ◌∙◌, arith, rules}
+use Rattle.std.proofs.Common.{◌≡◌, List, length, sym, ap, ◌∙◌, arith}
 use Rattle.files.specs.declared.plan.Path as plan
 use Rattle.files.specs.Rules.{path_at}
-use Rattle.files.specs.Views.{path_of, paths_of}
+use Rattle.files.specs.Views.{paths_of}
 use Rattle.files.proofs.Paths.{path_read}
 use Rattle.floor.proofs.next.stop_count.Goals as goal
 

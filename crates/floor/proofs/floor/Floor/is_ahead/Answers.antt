@@ -6,8 +6,8 @@ use Rattle.floor.proofs.Placing.{placed_count}
 use Rattle.floor.proofs.Sound.{path_long}
 use Rattle.floor.proofs.floor.Floor.is_ahead.Goals as goal
 
-pub next-stop-requires : goal.next-stop-requires
-next-stop-requires c =
+pub next_stop-requires : goal.next_stop-requires
+next_stop-requires c =
     let f = c.args.self.now in
     let p = f.plan in
     let s = c.args.at.shuttle in

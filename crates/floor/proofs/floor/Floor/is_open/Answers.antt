@@ -27,21 +27,21 @@ other c =
     subst (λ (l : List Meeting). StopOf (paths_in f) (meeting_at l c.args.meeting).other) (sym c.meetings-meetings.ensures)
     (other_stop (paths_in f) (vec_items p.tables) (vec_items p.meetings) p.sound c.args.meeting (there c))
 
-pub both-ahead-requires : goal.both-ahead-requires
-both-ahead-requires c = let at = (goal.at.both-ahead-requires c).Else-meeting-meetings in record { lower = lower at; other = other at }
+pub both_ahead-requires : goal.both_ahead-requires
+both_ahead-requires c = let at = (goal.at.both_ahead-requires c).Else-meeting-meetings in record { lower = lower at; other = other at }
 
 pub place-requires : goal.place-requires
 place-requires c = lower (goal.at.place-requires c).Else-meeting-meetings
 
-pub returns-then-both-ahead : goal.returns-then-both-ahead
-returns-then-both-ahead c =
+pub returns-then-both_ahead : goal.returns-then-both_ahead
+returns-then-both_ahead c =
     let f = c.args.self.now in
     let ms = vec_items f.plan.meetings in
     let ts = vec_items f.plan.tables in
     let j = c.args.meeting in
-    let table = c.is-table.result in
+    let table = c.is_table.result in
     let is = c.meetings-meetings.ensures in
     let place : c.place.result ≡ (stop_of (paths_in f) (meeting_at ms j).lower).place = c.place.ensures ∙ ap (λ (l : List Meeting). (stop_of (paths_in f) (meeting_at l j).lower).place) is in
-    open_when (paths_in f) ts (records_in f) ms j (there (goal.at.returns-then-both-ahead c).Else-meeting-meetings) table
-    (subst (λ (l : List Meeting). IsAhead f (meeting_at l j).lower × IsAhead f (meeting_at l j).other) is c.if-both-ahead.ensures)
-    (subst (λ n. MatchBool table (Has ts n) (Has ts n → ⊥)) place c.is-table.ensures)
+    open_when (paths_in f) ts (records_in f) ms j (there (goal.at.returns-then-both_ahead c).Else-meeting-meetings) table
+    (subst (λ (l : List Meeting). IsAhead f (meeting_at l j).lower × IsAhead f (meeting_at l j).other) is c.if-both_ahead.ensures)
+    (subst (λ n. MatchBool table (Has ts n) (Has ts n → ⊥)) place c.is_table.ensures)

@@ -24,8 +24,8 @@ read_is c lt =
     ∙ sym (path_read c.paths.result.now s c.index-paths-at.result lt c.index-paths-at.is)
     ∙ ap (λ (l : List plan.Path). path_at (paths_of l) s) c.paths.ensures
 
-pub offset-bounds-paths-at : goal.offset-bounds-paths-at
-offset-bounds-paths-at c =
+pub offset_bounds-paths-at : goal.offset_bounds-paths-at
+offset_bounds-paths-at c =
     let p = c.args.self.now.plan in
     omega (arith, c.requires.0, few_shuttles (paths_of (vec_items p.paths)) (vec_items p.tables) (vec_items p.meetings) p.sound)
 

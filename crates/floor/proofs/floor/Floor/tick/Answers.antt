@@ -1,4 +1,4 @@
-use Rattle.std.proofs.Common.{◌≡◌, ℕ, ◌<◌, ◌≤◌, List, length, vec_items, sym, refl, ap, ◌∙◌, subst, arith, rules}
+use Rattle.std.proofs.Common.{◌≡◌, List, length, vec_items, sym, refl, ap, ◌∙◌, subst, arith, rules}
 use mathlib.Core.Logic.{∥∥₁_map}
 use Rattle.std.proofs.ByRecursion.{All-weaker}
 use Rattle.std.proofs.lemmas.List.{length-map}
@@ -18,18 +18,18 @@ use Rattle.floor.proofs.Scenes.{placed_tick, word-moves}
 use Rattle.floor.proofs.Sound.{path_long}
 use Rattle.floor.proofs.floor.Floor.tick.Goals as goal
 
-pub too-many-requires : goal.too-many-requires
-too-many-requires c =
+pub too_many-requires : goal.too_many-requires
+too_many-requires c =
     let p = c.args.self.now.plan in
     omega (arith, ap (λ (l : List plan.Path). length l) c.paths.ensures, few_shuttles (paths_of (vec_items p.paths)) (vec_items p.tables) (vec_items p.meetings) p.sound, length-map (vec_items p.paths) path_of)
 
-pub returns-then-too-many : goal.returns-then-too-many
-returns-then-too-many c =
+pub returns-then-too_many : goal.returns-then-too_many
+returns-then-too_many c =
     let f = c.args.self.now in
     let ps = paths_in f in
     let standing = c.args.standing in
     let count : length c.paths.result.now ≡ length ps = ap (λ (l : List plan.Path). length l) c.paths.ensures ∙ sym (length-map (vec_items f.plan.paths) path_of) in
-    refused (tick_fault ps standing) (word_of_moved ps c.args.orders.now standing (records_in f)) (after_tick ps c.args.orders.now standing (records_in f)) f _ (search rules) _ (tick_bad ps standing (length c.paths.result.now) count c.if-too-many.ensures) (search rules)
+    refused (tick_fault ps standing) (word_of_moved ps c.args.orders.now standing (records_in f)) (after_tick ps c.args.orders.now standing (records_in f)) f _ (search rules) _ (tick_bad ps standing (length c.paths.result.now) count c.if-too_many.ensures) (search rules)
 
 pub step-requires : goal.step-requires
 step-requires c =
@@ -41,15 +41,18 @@ step-requires c =
       fits = All-weaker _ _ (λ (x : Shuttle) h. omega (arith, h)) (records_in f) (all_low ps (records_in f) f.placed (path_long ps (vec_items p.tables) (vec_items p.meetings) p.sound));
     }
 
-pub invariant-of-self-2 : goal.invariant-of-self-2
-invariant-of-self-2 c =
+pub invariant_of-self-2 : goal.invariant_of-self-2
+invariant_of-self-2 c =
     let f = c.args.self.now in
     let ps = paths_in f in
     let xs = records_in f in
     let orders = c.args.orders.now in
     let standing = c.args.standing in
-    let same : vec_items c.step.new.self.records ≡ after_tick ps orders standing xs = c.step.ensures ∙ ap (λ w. stepped (bit w) 0 xs) c.moved-word-moved.ensures ∙ word-moves ps orders standing xs (placed_count ps xs f.placed) in
-    (f.indexed, (subst (λ (l : List Shuttle). ∥ AllPlaced ps l ∥₁) (sym same) (∥∥₁_map f.placed (placed_tick ps orders standing xs)), tt))
+    let same : vec_items c.step.new.self.records ≡ after_tick ps orders standing xs = c.step.ensures ∙ ap (λ w. stepped (bit w) 0 xs) c.moved_word-moved.ensures ∙ word-moves ps orders standing xs (placed_count ps xs f.placed) in
+    record {
+      indexed = f.indexed;
+      placed = subst (λ (l : List Shuttle). ∥ AllPlaced ps l ∥₁) (sym same) (∥∥₁_map f.placed (placed_tick ps orders standing xs));
+    }
 
 pub returns : goal.returns
 returns c =
@@ -58,6 +61,6 @@ returns c =
     let xs = records_in f in
     let orders = c.args.orders.now in
     let standing = c.args.standing in
-    let same : vec_items c.step.new.self.records ≡ after_tick ps orders standing xs = c.step.ensures ∙ ap (λ w. stepped (bit w) 0 xs) c.moved-word-moved.ensures ∙ word-moves ps orders standing xs (placed_count ps xs f.placed) in
+    let same : vec_items c.step.new.self.records ≡ after_tick ps orders standing xs = c.step.ensures ∙ ap (λ w. stepped (bit w) 0 xs) c.moved_word-moved.ensures ∙ word-moves ps orders standing xs (placed_count ps xs f.placed) in
     let count : length c.paths.result.now ≡ length ps = ap (λ (l : List plan.Path). length l) c.paths.ensures ∙ sym (length-map (vec_items f.plan.paths) path_of) in
-    carried_out (tick_fault ps standing) (word_of_moved ps orders standing xs) (after_tick ps orders standing xs) f _ refl c.moved-word-moved.result c.moved-word-moved.ensures (tick_good ps standing (length c.paths.result.now) count c.if-too-many.ensures) same
+    carried_out (tick_fault ps standing) (word_of_moved ps orders standing xs) (after_tick ps orders standing xs) f _ refl c.moved_word-moved.result c.moved_word-moved.ensures (tick_good ps standing (length c.paths.result.now) count c.if-too_many.ensures) same

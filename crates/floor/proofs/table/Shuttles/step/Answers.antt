@@ -1,4 +1,4 @@
-use Rattle.std.proofs.Common.{◌≡◌, ℕ, suc, ◌+◌, ◌-◌, ◌<◌, Bool, cond, List, length, get_or, set, vec_items, vec_len, sym, ap, ◌∙◌, subst, arith}
+use Rattle.std.proofs.Common.{◌≡◌, ℕ, suc, ◌+◌, ◌-◌, ◌<◌, Bool, cond, List, length, get_or, set, vec_items, ap, ◌∙◌, arith}
 use Rattle.std.proofs.ByRecursion.{All-get_or}
 use Rattle.std.proofs.lemmas.List.{get_or_read}
 use Rattle.floor.specs.declared.table.Shuttle.{Shuttle}
@@ -26,8 +26,8 @@ module _ (ys xs : List Shuttle) (moves : ℕ → Bool) (k : ℕ) (one : Shuttle)
 zero_more : (n : ℕ) → n ≡ n + 0
 zero_more n = omega arith
 
-pub overflow-add-one : goal.overflow-add-one
-overflow-add-one c =
+pub overflow_add-one : goal.overflow_add-one
+overflow_add-one c =
     let xs = vec_items c.args.self.now.records in
     let k = c.loop-shuttle.shuttle in
     let lt : k < length xs = omega (arith, c.len-shuttle-end.ensures, c.loop-shuttle-test.true, c.args.self.now.records.ok.0) in
@@ -44,7 +44,7 @@ loop-shuttle-preserved c =
     let m = bit c.args.moved in
     let stop : c.if-names.one.stop ≡ old.stop + cond (m k) 1 0 = elim c.if-names.branch [ then-names w ↦ ap (λ (x : Shuttle). x.stop) w.one-is ∙ ap (λ (b : Bool). old.stop + cond b 1 0) w.if-names.ensures | else-names w ↦ ap (λ (x : Shuttle). x.stop) w.one-is ∙ zero_more old.stop ∙ ap (λ (b : Bool). old.stop + cond b 1 0) w.if-names.ensures ] in
     let hold : c.if-names.one.hold ≡ old.hold = elim c.if-names.branch [ then-names w ↦ ap (λ (x : Shuttle). x.hold) w.one-is | else-names w ↦ ap (λ (x : Shuttle). x.hold) w.one-is ] in
-    again (vec_items c.loop-shuttle.self.records) xs m k old c.loop-shuttle.invariant lt c.index-one.ensures _ _ stop (c.saturating-sub.ensures ∙ ap (λ h. h - 1) hold)
+    again (vec_items c.loop-shuttle.self.records) xs m k old c.loop-shuttle.invariant lt c.index-one.ensures _ _ stop (c.saturating_sub.ensures ∙ ap (λ h. h - 1) hold)
 
 pub returns : goal.returns
 returns c =
