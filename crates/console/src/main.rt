@@ -1,5 +1,6 @@
 // Reads plan.bin in the folder it runs in and opens it; then carries out the lines of standard input, to its end, and prints the reply to each. A file that cannot be read counts as empty.
 #![tactic(auto)]
+
 use desk::{carry_out, refused};
 use lines::replies::{Reply, reply_line};
 use run::run::Run;

@@ -1,5 +1,6 @@
 // What the console makes of a line.
 #![tactic(auto)]
+
 ghost use Rattle.std.specs.Prelude.{◌≡◌};
 ghost use Rattle.lines.specs.Lines.{command_of};
 ghost use Rattle.run.specs.Views.{state_of};

@@ -1,6 +1,6 @@
 -- Each part of a plan file is read as it was written.
 use Rattle.std.proofs.Common.{◌≡◌, ℕ, ◌+◌, ◌*◌, ◌≤◌, min, List, [], ◌∷◌, ◌++◌, length, get_or, drop, Ok, Result, sym, refl, ap, ◌∙◌, subst, mul-zero, mul-suc, arith}
-use Rattle.std.specs.List.{flat_map, AllByRecursion as All}
+use Rattle.std.specs.List.{flat_map, AllByRecursion}
 use Rattle.files.specs.declared.plan.Stop.{Stop}
 use Rattle.files.specs.Layout.{then, row, field, Entry, entry, next_entry, table, next_table, stop, next_stop, Body, body, next_body}
 use Rattle.files.specs.Bytes.{word_bytes, stop_bytes, path_bytes, FitsWord, StopFits}
@@ -12,11 +12,11 @@ module _ {S X : Type 0} (bs : List ℕ) (one : S → Result X ℕ) (on : S → X
   encs_joined f same s [] = refl
   encs_joined f same s (z ∷ zs) = ap (λ l. l ++ encs bs one on k (on s z) zs) (same s z) ∙ ap (λ l. f z ++ l) (encs_joined f same (on s z) zs)
 
-  pub goods_all : (P : X → Type 0) → ((s : S) (x : X) → k.Good s x → P x) → (s : S) (zs : List X) → Goods bs one on k s zs → All P zs
+  pub goods_all : (P : X → Type 0) → ((s : S) (x : X) → k.Good s x → P x) → (s : S) (zs : List X) → Goods bs one on k s zs → AllByRecursion P zs
   goods_all P each s [] g = tt
   goods_all P each s (z ∷ zs) g = (each s z g.0, goods_all P each (on s z) zs g.1)
 
-  pub all_goods : (P : X → Type 0) → ((s : S) (x : X) → P x → k.Good s x) → (s : S) (zs : List X) → All P zs → Goods bs one on k s zs
+  pub all_goods : (P : X → Type 0) → ((s : S) (x : X) → P x → k.Good s x) → (s : S) (zs : List X) → AllByRecursion P zs → Goods bs one on k s zs
   all_goods P each s [] g = tt
   all_goods P each s (z ∷ zs) g = (each s z g.0, all_goods P each (on s z) zs g.1)
 
@@ -110,7 +110,7 @@ module _ (bs : List ℕ) where
 
     module _ (counts : List ℕ) where
       abbrev pub BodyGood : Body → List Stop → Type 0
-      BodyGood b path = (length path ≡ get_or counts b.shuttle 0) × All StopFits path
+      BodyGood b path = (length path ≡ get_or counts b.shuttle 0) × AllByRecursion StopFits path
 
       pub body_reads : (b : Body) (path : List Stop) → body bs counts b ≡ Ok path → (drop b.at bs ≡ path_bytes path ++ drop (b.at + 4 * length path) bs) × BodyGood b path
       body_reads b path r =

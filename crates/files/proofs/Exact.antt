@@ -1,6 +1,6 @@
 -- A file is read exactly when it is the file of the plan that is read.
 use Rattle.std.proofs.Common.{◌≡◌, ℕ, zero, suc, ◌+◌, ◌*◌, ◌<◌, ◌≤◌, leb, List, [], ◌∷◌, ◌++◌, map, length, get_or, drop, Ok, sum_by, sum, sym, refl, ap, ◌∙◌, subst, append_assoc, append-nil, add-zero, zero-add, arith}
-use Rattle.std.specs.List.{flat_map, AllByRecursion as All}
+use Rattle.std.specs.List.{flat_map, AllByRecursion}
 use Rattle.std.proofs.lemmas.List.{length-append, length-drop, length-map, get_or-map, ext_get_or, drop_all}
 use Rattle.std.proofs.lemmas.List.Sums.{sum_by-cons, sum-map}
 use Rattle.std.proofs.lemmas.Bool.{leb-true, le-leb, cond-true}
@@ -36,11 +36,11 @@ length-contents : (begin : ℕ) (cs : List ℕ) → length (contents_bytes begin
 length-contents begin [] = refl
 length-contents begin (c ∷ cs) = let e = length-contents (begin + 4 * c) cs in omega arith
 
-paths_fit : (ps : List (List Stop)) → All (λ c. (1 ≤ c) × (c ≤ 64)) (map length ps) → All (λ p. All StopFits p) ps → All PathFits ps
+paths_fit : (ps : List (List Stop)) → AllByRecursion (λ c. (1 ≤ c) × (c ≤ 64)) (map length ps) → AllByRecursion (λ p. AllByRecursion StopFits p) ps → AllByRecursion PathFits ps
 paths_fit [] a b = tt
 paths_fit (p ∷ ps) a b = ((a.0.0, a.0.1, b.0), paths_fit ps a.1 b.1)
 
-fit_paths : (ps : List (List Stop)) → All PathFits ps → All (λ c. (1 ≤ c) × (c ≤ 64)) (map length ps) × All (λ p. All StopFits p) ps
+fit_paths : (ps : List (List Stop)) → AllByRecursion PathFits ps → AllByRecursion (λ c. (1 ≤ c) × (c ≤ 64)) (map length ps) × AllByRecursion (λ p. AllByRecursion StopFits p) ps
 fit_paths [] a = (tt, tt)
 fit_paths (p ∷ ps) a = let r = fit_paths ps a.1 in (((a.0.0, a.0.1), r.0), (a.0.2, r.1))
 
@@ -49,20 +49,20 @@ module _ (bs : List ℕ) (small : Bytes bs) where
   contents_written e [] = refl
   contents_written e (c ∷ cs) = ap (λ l. word_bytes e.begin ++ word_bytes c ++ l) (contents_written (next_entry e c) cs)
 
-  contents_good : (e : Entry) (cs : List ℕ) → Goods bs (entry bs) next_entry (entries bs small) e cs → All (λ c. (1 ≤ c) × (c ≤ 64)) cs × (sum cs ≤ e.room)
+  contents_good : (e : Entry) (cs : List ℕ) → Goods bs (entry bs) next_entry (entries bs small) e cs → AllByRecursion (λ c. (1 ≤ c) × (c ≤ 64)) cs × (sum cs ≤ e.room)
   contents_good e [] g = (tt, omega arith)
   contents_good e (c ∷ cs) g =
       let r = contents_good (next_entry e c) cs g.1 in
       let s = sum_by-cons (λ x. x) c cs in
       (((g.0.0, g.0.1), r.0), omega arith)
 
-  good_contents : (e : Entry) (cs : List ℕ) → All (λ c. (1 ≤ c) × (c ≤ 64)) cs → sum cs ≤ e.room → Goods bs (entry bs) next_entry (entries bs small) e cs
+  good_contents : (e : Entry) (cs : List ℕ) → AllByRecursion (λ c. (1 ≤ c) × (c ≤ 64)) cs → sum cs ≤ e.room → Goods bs (entry bs) next_entry (entries bs small) e cs
   good_contents e [] a le = tt
   good_contents e (c ∷ cs) a le =
       let s = sum_by-cons (λ x. x) c cs in
       ((a.0.0, a.0.1, omega arith), good_contents (next_entry e c) cs a.1 (omega arith))
 
-  tables_good : (t : Table) (ps : List ℕ) → Goods bs (table bs) next_table (places bs small) t ps → All FitsWord ps × Rises ps × (0 < length ps → t.low ≤ get_or ps 0 0)
+  tables_good : (t : Table) (ps : List ℕ) → Goods bs (table bs) next_table (places bs small) t ps → AllByRecursion FitsWord ps × Rises ps × (0 < length ps → t.low ≤ get_or ps 0 0)
   tables_good t [] g = (tt, λ i lt. absurd (omega arith), λ lt. absurd (omega arith))
   tables_good t (p ∷ ps) g =
       let r = tables_good (next_table t p) ps g.1 in
@@ -72,7 +72,7 @@ module _ (bs : List ℕ) (small : Bytes bs) where
       rises p ps first up zero lt = omega (arith, first (omega arith))
       rises p ps first up (suc i) lt = up i (omega arith)
 
-  good_tables : (t : Table) (ps : List ℕ) → All FitsWord ps → Rises ps → (0 < length ps → t.low ≤ get_or ps 0 0) → Goods bs (table bs) next_table (places bs small) t ps
+  good_tables : (t : Table) (ps : List ℕ) → AllByRecursion FitsWord ps → Rises ps → (0 < length ps → t.low ≤ get_or ps 0 0) → Goods bs (table bs) next_table (places bs small) t ps
   good_tables t [] a up first = tt
   good_tables t (p ∷ ps) a up first =
       ((first (omega arith), a.0), good_tables (next_table t p) ps a.1 (λ i lt. up (suc i) (omega arith)) (λ lt. omega (arith, up 0 (omega arith))))
@@ -86,7 +86,7 @@ module _ (bs : List ℕ) (small : Bytes bs) where
         bodies_good (next_body b p) ps g.1 i (omega arith) ∙ ap (λ k. get_or counts k 0) e
 
     good_bodies :
-        (b : Body) (ps : List (List Stop)) → ((i : ℕ) → i < length ps → length (get_or ps i []) ≡ get_or counts (b.shuttle + i) 0) → All (λ p. All StopFits p) ps
+        (b : Body) (ps : List (List Stop)) → ((i : ℕ) → i < length ps → length (get_or ps i []) ≡ get_or counts (b.shuttle + i) 0) → AllByRecursion (λ p. AllByRecursion StopFits p) ps
         → Goods bs (body bs counts) next_body (tracks bs small counts) b ps
     good_bodies b [] each a = tt
     good_bodies b (p ∷ ps) each a = (
@@ -97,7 +97,7 @@ module _ (bs : List ℕ) (small : Bytes bs) where
 
   contents-read :
       (n begin : ℕ) (counts : List ℕ) → contents bs n begin ≡ Ok counts
-      → (length counts ≡ n) × (drop 4 bs ≡ contents_bytes begin counts ++ drop (tables_at n) bs) × (All (λ c. (1 ≤ c) × (c ≤ 64)) counts × (sum counts ≤ 512))
+      → (length counts ≡ n) × (drop 4 bs ≡ contents_bytes begin counts ++ drop (tables_at n) bs) × (AllByRecursion (λ c. (1 ≤ c) × (c ≤ 64)) counts × (sum counts ≤ 512))
   contents-read n begin counts f =
       let s : Entry = record { at = 4; begin = begin; room = 512 } in
       let w = row_reads_all bs (entry bs) next_entry (entries bs small) n s counts f in
@@ -109,7 +109,7 @@ module _ (bs : List ℕ) (small : Bytes bs) where
 
   tables-read :
       (m at : ℕ) (ts : List ℕ) → tables bs m at ≡ Ok ts
-      → (length ts ≡ m) × (drop at bs ≡ flat_map word_bytes ts ++ drop (at + 2 * m) bs) × (All FitsWord ts × Rises ts)
+      → (length ts ≡ m) × (drop at bs ≡ flat_map word_bytes ts ++ drop (at + 2 * m) bs) × (AllByRecursion FitsWord ts × Rises ts)
   tables-read m at ts f =
       let s : Table = record { at = at; low = 0 } in
       let w = row_reads_all bs (table bs) next_table (places bs small) m s ts f in
@@ -122,7 +122,7 @@ module _ (bs : List ℕ) (small : Bytes bs) where
 
   bodies-read :
       (counts : List ℕ) (at : ℕ) (ps : List (List Stop)) → bodies bs counts at ≡ Ok ps
-      → (map length ps ≡ counts) × (drop at bs ≡ flat_map path_bytes ps ++ drop (at + 4 * sum counts) bs) × All (λ p. All StopFits p) ps
+      → (map length ps ≡ counts) × (drop at bs ≡ flat_map path_bytes ps ++ drop (at + 4 * sum counts) bs) × AllByRecursion (λ p. AllByRecursion StopFits p) ps
   bodies-read counts at ps f =
       let s : Body = record { at = at; shuttle = 0 } in
       let k = tracks bs small counts in
@@ -133,7 +133,7 @@ module _ (bs : List ℕ) (small : Bytes bs) where
       let end : (after bs (body bs counts) next_body k s ps).at ≡ at + 4 * sum counts = after-at bs (body bs counts) next_body k s ps ∙ ap (λ l. at + length l) written ∙ ap (λ n. at + n) (length-bodies ps ∙ ap (λ n. 4 * n) (sym (sum-map length ps) ∙ ap sum same)) in (
         same,
         w.1 ∙ ap (λ l. l ++ drop (after bs (body bs counts) next_body k s ps).at bs) written ∙ ap (λ i. flat_map path_bytes ps ++ drop i bs) end,
-        goods_all bs (body bs counts) next_body k (λ p. All StopFits p) (λ s p g. g.1) s ps w.2,
+        goods_all bs (body bs counts) next_body k (λ p. AllByRecursion StopFits p) (λ s p g. g.1) s ps w.2,
       )
 
   parts_read :
@@ -156,7 +156,7 @@ module _ (bs : List ℕ) (small : Bytes bs) where
         record {
           some = omega arith;
           shuttles = omega arith;
-          stops = paths_fit ps (subst (λ cs. All (λ c. (1 ≤ c) × (c ≤ 64)) cs) (sym w₅.0) w₃.2.0) w₅.2;
+          stops = paths_fit ps (subst (λ cs. AllByRecursion (λ c. (1 ≤ c) × (c ≤ 64)) cs) (sym w₅.0) w₃.2.0) w₅.2;
           total = omega arith;
           few = omega arith;
           places = w₄.2.0;
@@ -176,20 +176,20 @@ module _ (bs : List ℕ) (small : Bytes bs) where
       (parts_read p₁.0 p₂.0 p₃.0 p₄.0 p₅.0 p₁.1 p₂.1 p₃.1 p₄.1 p₅.1 (leb-true _ _ p₆.0))
 
   contents_write :
-      (begin : ℕ) (counts : List ℕ) (n : ℕ) (rest : List ℕ) → length counts ≡ n → All (λ c. (1 ≤ c) × (c ≤ 64)) counts → sum counts ≤ 512
+      (begin : ℕ) (counts : List ℕ) (n : ℕ) (rest : List ℕ) → length counts ≡ n → AllByRecursion (λ c. (1 ≤ c) × (c ≤ 64)) counts → sum counts ≤ 512
       → drop 4 bs ≡ contents_bytes begin counts ++ rest → contents bs n begin ≡ Ok counts
   contents_write begin counts n rest e a le d =
       let s : Entry = record { at = 4; begin = begin; room = 512 } in
       ap (λ k. contents bs k begin) (sym e)
       ∙ row_writes bs (entry bs) next_entry (entries bs small) counts s [] rest (good_contents s counts a le) (d ∙ ap (λ l. l ++ rest) (sym (contents_written s counts)))
 
-  tables_write : (at : ℕ) (ts rest : List ℕ) → All FitsWord ts → Rises ts → drop at bs ≡ flat_map word_bytes ts ++ rest → tables bs (length ts) at ≡ Ok ts
+  tables_write : (at : ℕ) (ts rest : List ℕ) → AllByRecursion FitsWord ts → Rises ts → drop at bs ≡ flat_map word_bytes ts ++ rest → tables bs (length ts) at ≡ Ok ts
   tables_write at ts rest a up d =
       let s : Table = record { at = at; low = 0 } in
       row_writes bs (table bs) next_table (places bs small) ts s [] rest (good_tables s ts a up (λ _. omega arith))
       (d ∙ ap (λ l. l ++ rest) (sym (encs_joined bs (table bs) next_table (places bs small) word_bytes (λ s x. refl) s ts)))
 
-  bodies_write : (at : ℕ) (ps : List (List Stop)) → All (λ p. All StopFits p) ps → drop at bs ≡ flat_map path_bytes ps → bodies bs (map length ps) at ≡ Ok ps
+  bodies_write : (at : ℕ) (ps : List (List Stop)) → AllByRecursion (λ p. AllByRecursion StopFits p) ps → drop at bs ≡ flat_map path_bytes ps → bodies bs (map length ps) at ≡ Ok ps
   bodies_write at ps a d =
       let s : Body = record { at = at; shuttle = 0 } in
       let k = tracks bs small (map length ps) in

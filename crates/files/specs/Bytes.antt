@@ -1,6 +1,6 @@
 -- The bytes of a plan file, and the law of its reader.
 use Rattle.std.specs.Prelude.{◌≡◌, ℕ, suc, ◌+◌, ◌*◌, ◌/◌, ◌%◌, ◌<◌, ◌≤◌, List, [], ◌∷◌, ◌++◌, map, length, Ok, sum_by, slice_index}
-use Rattle.std.specs.List.{flat_map, AllByRecursion as All}
+use Rattle.std.specs.List.{flat_map, AllByRecursion}
 use Rattle.files.specs.declared.plan.Stop.{Stop}
 use Rattle.files.specs.Layout.{Layout, layout, bodies_at}
 
@@ -35,16 +35,16 @@ StopFits s = FitsWord s.place × FitsWord s.tick
 
 -- a path has 1 to 64 stops
 abbrev pub PathFits : List Stop → Type 0
-PathFits path = (1 ≤ length path) × (length path ≤ 64) × All StopFits path
+PathFits path = (1 ≤ length path) × (length path ≤ 64) × AllByRecursion StopFits path
 
 -- the limits of a plan
 pub record Limits (l : Layout) : Type 0 where
   pub some : 1 ≤ length l.paths
   pub shuttles : length l.paths ≤ 32
-  pub stops : All PathFits l.paths
+  pub stops : AllByRecursion PathFits l.paths
   pub total : sum_by length l.paths ≤ 512
   pub few : length l.tables ≤ 64
-  pub places : All FitsWord l.tables
+  pub places : AllByRecursion FitsWord l.tables
   pub rising : (i : ℕ) → suc i < length l.tables → slice_index l.tables i < slice_index l.tables (suc i)
 
 -- A reading gives a plan exactly when the file is the file of that plan, and the plan keeps the limits.

@@ -1,6 +1,6 @@
 -- Meetings that are open.
 use Rattle.std.proofs.Common.{ℕ, ◌<◌, Bool, true, false, not, List, length, Decides, MatchBool, refl}
-use Rattle.std.specs.List.{ContainsAt as Has}
+use Rattle.std.specs.List.{ContainsAt}
 use Rattle.std.proofs.lemmas.Bool.{false≢true}
 use Rattle.files.specs.declared.plan.Stop.{Stop}
 use Rattle.meetings.specs.declared.meet.Meeting.{Meeting}
@@ -18,7 +18,7 @@ module _ (ps : List (List Stop)) (ts : List ℕ) (xs : List Shuttle) (ms : List 
   -- where both stops are ahead, the table decides
   pub open_when :
       (b : Bool) → Ahead ps xs (meeting_at ms j).lower × Ahead ps xs (meeting_at ms j).other
-      → MatchBool b (Has ts (stop_of ps (meeting_at ms j).lower).place) (Has ts (stop_of ps (meeting_at ms j).lower).place → ⊥)
+      → MatchBool b (ContainsAt ts (stop_of ps (meeting_at ms j).lower).place) (ContainsAt ts (stop_of ps (meeting_at ms j).lower).place → ⊥)
       → MatchBool (not b) (OpenAt ps ts xs ms j) (OpenAt ps ts xs ms j → ⊥)
   open_when true a has = λ o. o.1.plain has
   open_when false a plain = (lt, record { lower = a.0; other = a.1; plain = plain })

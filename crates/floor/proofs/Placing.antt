@@ -2,7 +2,7 @@
 use Rattle.std.proofs.Common.{◌≡◌, ℕ, ◌<◌, ◌≤◌, List, length, Option, ap, inl, inr, arith}
 use mathlib.Core.Logic.{∥∥₁_elim}
 use native.Mathlib.Bridge.{le_prop}
-use Rattle.std.specs.List.{AllByRecursion as All}
+use Rattle.std.specs.List.{AllByRecursion}
 use Rattle.std.proofs.ByRecursion.{All-from_get_or}
 use Rattle.std.proofs.lemmas.List.{get_or_past}
 use Rattle.std.proofs.lemmas.Bool.{cases_lt}
@@ -34,5 +34,5 @@ module _ (ps : List (List Stop)) (xs : List Shuttle) (placed : ∥ AllPlaced ps 
       | inr g ↦ let none : stop_in xs s ≡ 0 = ap (λ (x : Shuttle). x.stop) (get_or_past xs s fresh (omega (arith, g, placed_count))) in omega (arith, none)
     ]
 
-    pub all_low : All (λ (x : Shuttle). x.stop < 64) xs
+    pub all_low : AllByRecursion (λ (x : Shuttle). x.stop < 64) xs
     all_low = All-from_get_or (λ (x : Shuttle). x.stop < 64) xs fresh (λ s _. placed_low s)

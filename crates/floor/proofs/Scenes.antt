@@ -1,7 +1,7 @@
 -- Scenes of shuttle records, after ticks and with new holds.
 use Rattle.std.proofs.Common.{◌≡◌, ℕ, zero, suc, ◌+◌, ◌<◌, ◌≤◌, Bool, true, false, List, [], ◌∷◌, length, set, Option, sym, refl, ap, ◌∙◌, subst, ap₂, arith}
 use native.Mathlib.Decide.{dec_lt, ℕ_discrete}
-use Rattle.std.specs.List.{AllByRecursion as All}
+use Rattle.std.specs.List.{AllByRecursion}
 use Rattle.std.proofs.ByRecursion.{All-from_get_or, All-get_or}
 use Rattle.std.proofs.lemmas.List.{get_or_past, get_or-set_same, get_or-set_other, length-set}
 use Rattle.files.specs.declared.plan.Stop.{Stop}
@@ -143,6 +143,6 @@ pub hold_scene :
     → scene ps orders (set xs s (holding ticks (shuttle_at xs s))) ≡ with_holds (scene ps orders xs) (hold_in (set xs s (holding ticks (shuttle_at xs s))))
 hold_scene ps orders xs s ticks i = scene_of ps orders (λ r. hold_stops xs s ticks r i) (hold_in (set xs s (holding ticks (shuttle_at xs s))))
 
-pub can_step : (ps : List (List Stop)) (xs : List Shuttle) → AllPlaced ps xs → All (λ p. length p ≤ 64) ps → CanStep xs
+pub can_step : (ps : List (List Stop)) (xs : List Shuttle) → AllPlaced ps xs → AllByRecursion (λ p. length p ≤ 64) ps → CanStep xs
 can_step ps xs placed short =
     All-from_get_or _ xs fresh (λ s lt. let n : s < length ps = omega (arith, placed.count) in omega (arith, (placed.each s n).on, All-get_or (λ p. length p ≤ 64) ps s [] n short))

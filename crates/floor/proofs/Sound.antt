@@ -3,7 +3,7 @@ use Rattle.std.proofs.Common.{◌≡◌, ℕ, ◌<◌, ◌≤◌, Bool, true, fa
 use mathlib.Core.HLevel.{×_prop}
 use mathlib.Core.Logic.{∥∥₁_elim}
 use native.Mathlib.Bridge.{le_prop}
-use Rattle.std.specs.List.{AllByRecursion as All}
+use Rattle.std.specs.List.{AllByRecursion}
 use Rattle.std.proofs.ByRecursion.{All-from_get_or, All-get_or, has_get_or}
 use Rattle.files.specs.declared.plan.Stop.{Stop}
 use Rattle.files.specs.Bytes.{PathFits}
@@ -22,7 +22,7 @@ use Rattle.traffic.specs.Index.{no_meeting, meeting_at}
 use Rattle.traffic.specs.Plans.{awaited_at}
 use Rattle.floor.proofs.Sets.{meetings_prop}
 
-pub one_awaited : (P : At → Type 0) (b : Bool) (a : At) → P a → All P (cond b (a ∷ []) [])
+pub one_awaited : (P : At → Type 0) (b : Bool) (a : At) → P a → AllByRecursion P (cond b (a ∷ []) [])
 one_awaited P true a p = (p, tt)
 one_awaited P false a p = tt
 
@@ -37,15 +37,15 @@ module _ (ps : List (List Stop)) (ts : List ℕ) (ms : List Meeting) where
   path_long k s lt = ∥∥₁_elim k le_prop (λ h. (All-get_or PathFits ps s [] lt h.limits.stops).1)
 
   -- what is waited for is a stop of a shuttle of the plan
-  pub awaited_shuttle : ∥ Kept ps ts ms ∥₁ → (a : At) (j : ℕ) → j < length ms → (o : Option First) → All (λ b. b.shuttle < length ps) (awaited_at a (meeting_at ms j) o)
+  pub awaited_shuttle : ∥ Kept ps ts ms ∥₁ → (a : At) (j : ℕ) → j < length ms → (o : Option First) → AllByRecursion (λ b. b.shuttle < length ps) (awaited_at a (meeting_at ms j) o)
   awaited_shuttle k a j lt None = tt
   awaited_shuttle k a j lt (Some Lower) = let m = All-get_or (Ordered (length ps)) ms j no_meeting lt (meetings_ordered ps ts ms k) in one_awaited _ _ _ (omega (arith, m.0, m.1))
   awaited_shuttle k a j lt (Some Other) = let m = All-get_or (Ordered (length ps)) ms j no_meeting lt (meetings_ordered ps ts ms k) in one_awaited _ _ _ m.1
 
   -- the stops of a meeting are stops of the plan
-  all_meet : Kept ps ts ms → All (Meets ps) ms
+  all_meet : Kept ps ts ms → AllByRecursion (Meets ps) ms
   all_meet h =
-      subst (All (Meets ps)) (sym h.listed)
+      subst (AllByRecursion (Meets ps)) (sym h.listed)
       (All-from_get_or (Meets ps) (meetings ps) no_meeting (λ j lt. (meetings_law ps).sound (meeting_at (meetings ps) j) (has_get_or (meetings ps) j no_meeting lt)))
 
   pub lower_stop : ∥ Kept ps ts ms ∥₁ → (j : ℕ) → j < length ms → StopOf ps (meeting_at ms j).lower

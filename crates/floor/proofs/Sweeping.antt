@@ -1,7 +1,7 @@
 -- The greatest entry tick that is waited for.
 use Rattle.std.proofs.Common.{◌≡◌, ℕ, zero, suc, ◌+◌, ◌<◌, ◌≤◌, max, List, [], ◌∷◌, ◌++◌, map, length, get_or, take, Some, Option, sym, ap, ◌∙◌, subst, arith}
 use Rattle.std.specs.Option.{option_to_list}
-use Rattle.std.specs.List.{AllByRecursion as All}
+use Rattle.std.specs.List.{AllByRecursion}
 use Rattle.std.proofs.ByRecursion.{All-append}
 use Rattle.std.proofs.lemmas.List.{get_or_default, take_more, append-nil}
 use Rattle.meetings.specs.declared.meet.First.{First}
@@ -17,8 +17,8 @@ use Rattle.floor.specs.Sweeps.{Later, known_in}
 pub known_read : (known : List ℕ) (s : ℕ) → s < length known → get_or known s 0 ≡ known_in known s
 known_read known s lt = get_or_default known s 0 1 lt
 
-pub listed_one : {X : Type 0} (P : X → Type 0) (o : Option X) (x : X) → o ≡ Some x → All P (option_to_list o) → P x
-listed_one P o x e h = (subst (λ (p : Option _). All P (option_to_list p)) e h).0
+pub listed_one : {X : Type 0} (P : X → Type 0) (o : Option X) (x : X) → o ≡ Some x → AllByRecursion P (option_to_list o) → P x
+listed_one P o x e h = (subst (λ (p : Option _). AllByRecursion P (option_to_list p)) e h).0
 
 module _ (known : List ℕ) (other : Option At) (a : At) (is : other ≡ Some a) (lt : a.shuttle < length known) where
   pub later_not : get_or known a.shuttle 0 ≤ a.stop → Ready (known_in known) (option_to_list other) → ⊥
@@ -33,7 +33,7 @@ greatest-append : (e : Numbers) (l k : List At) → greatest (map (number e) (l 
 greatest-append e [] k = omega arith
 greatest-append e (a ∷ l) k = let g = greatest-append e l k in omega (arith, g)
 
-pub all_split : {X : Type 0} (P : X → Type 0) (xs ys : List X) → All P (xs ++ ys) → All P xs × All P ys
+pub all_split : {X : Type 0} (P : X → Type 0) (xs ys : List X) → AllByRecursion P (xs ++ ys) → AllByRecursion P xs × AllByRecursion P ys
 all_split P [] ys h = (tt, h)
 all_split P (x ∷ xs) ys h = let r = all_split P xs ys h.1 in ((h.0, r.0), r.1)
 

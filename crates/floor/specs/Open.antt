@@ -1,6 +1,6 @@
 -- Meetings that are open: neither shuttle has entered its stop there.
 use Rattle.std.specs.Prelude.{ℕ, suc, ◌<◌, List, length}
-use Rattle.std.specs.List.{ContainsAt as Has}
+use Rattle.std.specs.List.{ContainsAt}
 use Rattle.files.specs.declared.plan.Stop.{Stop}
 use Rattle.files.specs.Rules.{path_at, stop_at}
 use Rattle.meetings.specs.declared.meet.Meeting.{Meeting}
@@ -18,7 +18,7 @@ pub record Ahead (ps : List (List Stop)) (xs : List Shuttle) (a : At) : Type 0 w
 pub record Open (ps : List (List Stop)) (tables : List ℕ) (xs : List Shuttle) (m : Meeting) : Type 0 where
   pub lower : Ahead ps xs m.lower
   pub other : Ahead ps xs m.other
-  pub plain : Has tables (stop_at (path_at ps m.lower.shuttle) m.lower.stop).place → ⊥
+  pub plain : ContainsAt tables (stop_at (path_at ps m.lower.shuttle) m.lower.stop).place → ⊥
 
 -- by its number
 abbrev pub OpenAt : List (List Stop) → List ℕ → List Shuttle → List Meeting → ℕ → Type 0

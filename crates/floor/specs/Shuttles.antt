@@ -1,6 +1,6 @@
 -- What a list of shuttle records says.
 use Rattle.std.specs.Prelude.{ℕ, zero, suc, ◌+◌, ◌-◌, ◌<◌, Bool, cond, List, [], ◌∷◌, slice_index_or}
-use Rattle.std.specs.List.{AllByRecursion as All}
+use Rattle.std.specs.List.{AllByRecursion}
 use Rattle.floor.specs.declared.table.Shuttle.{Shuttle}
 
 -- at stop 0, without a hold
@@ -37,4 +37,4 @@ stepped moves s (x ∷ xs) = step (moves s) x ∷ stepped moves (suc s) xs
 
 -- stops that can be counted on
 abbrev pub CanStep : List Shuttle → Type 0
-CanStep xs = All (λ (x : Shuttle). x.stop < 65536) xs
+CanStep xs = AllByRecursion (λ (x : Shuttle). x.stop < 65536) xs

@@ -1,6 +1,6 @@
 -- Entry ticks as they are worked out: what is known so far, in lists.
 use Rattle.std.specs.Prelude.{◌≡◌, ℕ, suc, ◌<◌, ◌≤◌, max, Bool, true, false, List, [], map, length, Some, None, Option, slice_index, slice_index_or}
-use Rattle.std.specs.List.{AllByRecursion as All}
+use Rattle.std.specs.List.{AllByRecursion}
 use Rattle.files.specs.declared.plan.Stop.{Stop}
 use Rattle.files.specs.Rules.{path_at}
 use Rattle.meetings.specs.declared.stays.At.{At}
@@ -20,8 +20,8 @@ known_in known s = slice_index_or known s 1
 -- a row of 64 for each shuttle, and no shuttle is known beyond its row
 pub record Grid (known : List ℕ) (rows : List (List ℕ)) : Type 0 where
   pub many : length known ≡ length rows
-  pub wide : All (λ (row : List ℕ). length row ≡ 64) rows
-  pub within : All (λ k. k ≤ 64) known
+  pub wide : AllByRecursion (λ (row : List ℕ). length row ≡ 64) rows
+  pub within : AllByRecursion (λ k. k ≤ 64) known
 
 -- the greatest of a tick and the numbers of stops, or that not all of them have one
 abbrev pub Later : Option ℕ → ℕ → (ℕ → ℕ) → Numbers → List At → Type 0
@@ -44,4 +44,4 @@ pub record Worked (c : Scene) (rows : List (List ℕ)) : Type 0 where
   pub timed : Timed c (numbers_in rows)
   pub none : (s i : ℕ) → c.last s < i → numbers_in rows s i ≡ 0
   pub count : length rows ≡ 32
-  pub wide : All (λ (row : List ℕ). length row ≡ 64) rows
+  pub wide : AllByRecursion (λ (row : List ℕ). length row ≡ 64) rows

@@ -1,7 +1,7 @@
 // Entry ticks: the sweep over the shuttles.
 ghost use Rattle.std.specs.Prelude.{◌≡◌, suc, ◌+◌, ◌-◌, ◌^◌, ◌<◌, ◌≤◌, max, [], length, if◌then◌else◌, MatchBool, MatchResult, nat_eq, slice_index_or, slice_set};
 ghost use Rattle.std.specs.Option.{option_to_list};
-ghost use Rattle.std.specs.List.{AllByRecursion as All};
+ghost use Rattle.std.specs.List.{AllByRecursion};
 ghost use Rattle.files.specs.Rules.{path_at};
 ghost use Rattle.files.specs.Views.{paths_of};
 ghost use Rattle.meetings.specs.Meetings.{meetings};
@@ -28,7 +28,7 @@ pub const STOPS: usize = 64;
 
 // The later of a tick and the entry tick of a stop, if there is one; nothing, if that is not known.
 fn later(latest: u32, other: Option<At>, known: &[usize], ticks: &[[u32; STOPS]]) -> Option<u32>
-    requires shuttle { All (λ a. a.shuttle < length known.now) (option_to_list other) }
+    requires shuttle { AllByRecursion (λ a. a.shuttle < length known.now) (option_to_list other) }
     requires grid { Grid known.now ticks.now }
     ensures { Later result latest (known_in known.now) (numbers_in ticks.now) (option_to_list other) }
 {
@@ -52,7 +52,7 @@ fn latest(
     known: &[usize],
     ticks: &[[u32; STOPS]],
 ) -> Option<u32>
-    requires meetings { All (λ j. j < length plan.now.meetings.items) meetings.now }
+    requires meetings { AllByRecursion (λ j. j < length plan.now.meetings.items) meetings.now }
     requires shuttles { length plan.now.paths.items ≤ length known.now }
     requires grid { Grid known.now ticks.now }
     ensures { Later result 0 (known_in known.now) (numbers_in ticks.now) (awaited_in plan.now.meetings.items orders.now at meetings.now) }
@@ -96,7 +96,7 @@ fn first_unknown(plan: &Plan, shuttle: usize, known: &[usize]) -> Option<At>
     requires shuttle { shuttle < length plan.now.paths.items }
     requires count { length known.now ≡ 32 }
     requires begun { 0 < known_in known.now shuttle }
-    requires within { All (λ k. k ≤ 64) known.now }
+    requires within { AllByRecursion (λ k. k ≤ 64) known.now }
     ensures { result ≡ next_on (paths_of plan.now.paths.items) (Scene.at shuttle (known_in known.now shuttle - 1)) }
 {
     next_stop(
@@ -230,7 +230,7 @@ fn work_out(
 // Every stop that has been entered is known.
 fn begin(shuttles: &Shuttles, known: &mut [usize])
     requires many { length shuttles.now.records.items ≤ length known.old }
-    requires low { All (λ (x : Shuttle). x.stop < 64) shuttles.now.records.items }
+    requires low { AllByRecursion (λ (x : Shuttle). x.stop < 64) shuttles.now.records.items }
     ensures { Begun shuttles.now.records.items (length shuttles.now.records.items) known.old known.new }
 {
     for shuttle in 0..shuttles.len() {

@@ -4,6 +4,7 @@
 // At the end of a line all that are left are taken out and printed, each as NUMBER.PLACE, and then one more.
 // A call that finds the heap full prints "full", and one that finds it empty "none".
 #![tactic(auto)]
+
 ghost use Rattle.std.specs.Prelude.{◌≡◌, ◌-◌, IfOk};
 ghost use Rattle.heap_cases.specs.Numbers.{numbered_le, Holds};
 ghost use Rattle.std.proofs.Common.{rules};

@@ -1,11 +1,11 @@
 -- The numbers of a line: decimal, with one space before each.
 use Rattle.std.specs.Prelude.{◌≡◌, ℕ, suc, ◌+◌, ◌-◌, ◌*◌, ◌^◌, ◌<◌, ◌≤◌, cond, ◌&&◌, List, [], ◌∷◌, length, take, drop, Some, None, Option, ◌==◌, nat_le, nat_lt}
 use Rattle.std.specs.Borrow.{Bor}
-use Rattle.std.specs.List.{AllByRecursion as All}
+use Rattle.std.specs.List.{AllByRecursion}
 
 -- a digit is one of the bytes 48 to 57
 abbrev pub Digits : List ℕ → Type 0
-Digits ds = All (λ d. (48 ≤ d) × (d ≤ 57)) ds
+Digits ds = AllByRecursion (λ d. (48 ≤ d) × (d ≤ 57)) ds
 
 -- what decimal digits are worth, each by its place
 abbrev pub worth : List ℕ → ℕ

@@ -1,6 +1,6 @@
 -- The list of meetings holds exactly the meetings of a plan, in meeting order.
 use Rattle.std.proofs.Common.{◌≡◌, ℕ, zero, suc, ◌+◌, ◌<◌, Bool, true, false, cond, not, eqb, List, [], ◌∷◌, ◌++◌, length, get_or, sym, refl, ap, ◌∙◌, subst, inl, inr, ⊎_elim, zero-add, arith}
-use Rattle.std.specs.List.{flat_map, ContainsAt as Has, AllByRecursion as All}
+use Rattle.std.specs.List.{flat_map, ContainsAt, AllByRecursion}
 use Rattle.std.proofs.lemmas.List.FromFn.{length-map-range_with_len, get_or-map-range_with_len}
 use Rattle.std.proofs.ByRecursion.{All-append, All-from_get_or, all-has, All-weaker, has_get_or, has_append_left, has_append_right}
 use Rattle.std.proofs.lemmas.Bool.{and_parts, and_from, eqb-true, eqb-false, eq-eqb, ne_eqb, not-true, cond-true, cond-false}
@@ -25,7 +25,7 @@ ascending_from R d (x ∷ xs) h = (
 )
 
 pub ascending_append :
-    {X : Type 0} (R : X → X → Type 0) (xs ys : List X) → Ascending R xs → Ascending R ys → All (λ x. All (R x) ys) xs → Ascending R (xs ++ ys)
+    {X : Type 0} (R : X → X → Type 0) (xs ys : List X) → Ascending R xs → Ascending R ys → AllByRecursion (λ x. AllByRecursion (R x) ys) xs → Ascending R (xs ++ ys)
 ascending_append R [] ys a b c = b
 ascending_append R (x ∷ xs) ys a b c = (All-append (R x) xs ys a.0 c.0, ascending_append R xs ys a.1 b c.1)
 
@@ -77,7 +77,7 @@ module _ (ps : List (List Stop)) where
   abbrev Before : Stay → Stay → Type 0
   Before x y = Earlier x.at y.at
 
-  stays_good : All Good (stays ps)
+  stays_good : AllByRecursion Good (stays ps)
   stays_good = All-from_get_or Good (stays ps) nobody (λ k lt. let r = stay_found k lt in subst Good (sym r.is) (r.within, refl))
 
   stays_ascend : Ascending Before (stays ps)
@@ -103,18 +103,18 @@ module _ (ps : List (List Stop)) where
       }
 
   -- what holds of a meeting, if there is one
-  with_all : (P : Meeting → Type 0) (x y : Stay) → (meets x y ≡ true → P (meeting_between x y)) → All P (meet_with x y)
+  with_all : (P : Meeting → Type 0) (x y : Stay) → (meets x y ≡ true → P (meeting_between x y)) → AllByRecursion P (meet_with x y)
   with_all P x y h = go (meets x y) refl
     where
-      go : (b : Bool) → meets x y ≡ b → All P (meet_with x y)
-      go true e = subst (All P) (sym (meet_yes x y e)) (h e, tt)
-      go false e = subst (All P) (sym (meet_no x y e)) tt
+      go : (b : Bool) → meets x y ≡ b → AllByRecursion P (meet_with x y)
+      go true e = subst (AllByRecursion P) (sym (meet_yes x y e)) (h e, tt)
+      go false e = subst (AllByRecursion P) (sym (meet_no x y e)) tt
 
-  row_all : (P : Meeting → Type 0) (x : Stay) (ys : List Stay) → All (λ y. meets x y ≡ true → P (meeting_between x y)) ys → All P (flat_map (meet_with x) ys)
+  row_all : (P : Meeting → Type 0) (x : Stay) (ys : List Stay) → AllByRecursion (λ y. meets x y ≡ true → P (meeting_between x y)) ys → AllByRecursion P (flat_map (meet_with x) ys)
   row_all P x [] h = tt
   row_all P x (y ∷ ys) h = All-append P (meet_with x y) (flat_map (meet_with x) ys) (with_all P x y h.0) (row_all P x ys h.1)
 
-  rows_sound : (xs : List Stay) → All Good xs → Ascending Before xs → All (Meets ps) (meetings_of xs)
+  rows_sound : (xs : List Stay) → AllByRecursion Good xs → Ascending Before xs → AllByRecursion (Meets ps) (meetings_of xs)
   rows_sound [] g a = tt
   rows_sound (x ∷ xs) g a =
       All-append (Meets ps) (flat_map (meet_with x) xs) (meetings_of xs)
@@ -122,20 +122,20 @@ module _ (ps : List (List Stop)) where
       (rows_sound xs g.1 a.1)
 
   -- a pair that meets is in the list
-  row_has : (x : Stay) (ys : List Stay) (l : ℕ) → l < length ys → meets x (stay_in ys l) ≡ true → Has (flat_map (meet_with x) ys) (meeting_between x (stay_in ys l))
+  row_has : (x : Stay) (ys : List Stay) (l : ℕ) → l < length ys → meets x (stay_in ys l) ≡ true → ContainsAt (flat_map (meet_with x) ys) (meeting_between x (stay_in ys l))
   row_has x [] l lt m = absurd (omega arith)
   row_has x (y ∷ ys) zero lt m =
-      has_append_left (meet_with x y) (flat_map (meet_with x) ys) (meeting_between x y) (subst (λ (ms : List Meeting). Has ms (meeting_between x y)) (sym (meet_yes x y m)) (has_get_or (meeting_between x y ∷ []) 0 (meeting_between x y) (omega arith)))
+      has_append_left (meet_with x y) (flat_map (meet_with x) ys) (meeting_between x y) (subst (λ (ms : List Meeting). ContainsAt ms (meeting_between x y)) (sym (meet_yes x y m)) (has_get_or (meeting_between x y ∷ []) 0 (meeting_between x y) (omega arith)))
   row_has x (y ∷ ys) (suc l) lt m = has_append_right (meet_with x y) (flat_map (meet_with x) ys) _ (row_has x ys l (omega arith) m)
 
-  rows_has : (xs : List Stay) (k l : ℕ) → k < l → l < length xs → meets (stay_in xs k) (stay_in xs l) ≡ true → Has (meetings_of xs) (meeting_between (stay_in xs k) (stay_in xs l))
+  rows_has : (xs : List Stay) (k l : ℕ) → k < l → l < length xs → meets (stay_in xs k) (stay_in xs l) ≡ true → ContainsAt (meetings_of xs) (meeting_between (stay_in xs k) (stay_in xs l))
   rows_has [] k l lt le m = absurd (omega arith)
   rows_has (x ∷ xs) zero zero lt le m = absurd (omega arith)
   rows_has (x ∷ xs) zero (suc l) lt le m = has_append_left (flat_map (meet_with x) xs) (meetings_of xs) _ (row_has x xs l (omega arith) m)
   rows_has (x ∷ xs) (suc k) zero lt le m = absurd (omega arith)
   rows_has (x ∷ xs) (suc k) (suc l) lt le m = has_append_right (flat_map (meet_with x) xs) (meetings_of xs) _ (rows_has xs k l (omega arith) (omega arith) m)
 
-  meets_has : (m : Meeting) → Meets ps m → Has (meetings ps) m
+  meets_has : (m : Meeting) → Meets ps m → ContainsAt (meetings ps) m
   meets_has m w =
       let a = m.lower in
       let b = m.other in
@@ -146,7 +146,7 @@ module _ (ps : List (List Stop)) where
       let test : meets x y ≡ true = and_from _ _ (ap not (ne_eqb a.shuttle b.shuttle (λ e. omega (arith, w.ordered)))) (eq-eqb _ _ w.place) in
       let at = rows_has (stays ps) (index_of a) (index_of b) (order_index a b w.lower w.other w.ordered) here.0 ((λ i. meets (there.1 i) (here.1 i)) ∙ test) in
       let first : cond (is_left_before x y) Lower Other ≡ m.first = firsts (is_left_before x y) refl in
-      subst (Has (meetings ps)) ((λ i. meeting_between (there.1 i) (here.1 i)) ∙ (λ i. record { lower = a; other = b; first = first i })) at
+      subst (ContainsAt (meetings ps)) ((λ i. meeting_between (there.1 i) (here.1 i)) ∙ (λ i. record { lower = a; other = b; first = first i })) at
     where
       firsts : (t : Bool) → is_left_before (stay_of ps m.lower) (stay_of ps m.other) ≡ t → cond (is_left_before (stay_of ps m.lower) (stay_of ps m.other)) Lower Other ≡ m.first
       firsts true e = cond-true _ Lower Other e ∙ sym (w.first.0 e)
@@ -157,13 +157,13 @@ module _ (ps : List (List Stop)) where
   row_ascends x [] a = tt
   row_ascends x (y ∷ ys) a =
       ascending_append Precedes (meet_with x y) (flat_map (meet_with x) ys) (single (meets x y) refl) (row_ascends x ys a.1)
-      (with_all (λ m. All (Precedes m) (flat_map (meet_with x) ys)) x y (λ _. row_all (Precedes (meeting_between x y)) x ys (All-weaker (Before y) _ (λ z b _. inr (refl, b)) ys a.0)))
+      (with_all (λ m. AllByRecursion (Precedes m) (flat_map (meet_with x) ys)) x y (λ _. row_all (Precedes (meeting_between x y)) x ys (All-weaker (Before y) _ (λ z b _. inr (refl, b)) ys a.0)))
     where
       single : (t : Bool) → meets x y ≡ t → Ascending Precedes (meet_with x y)
       single true e = subst (Ascending Precedes) (sym (meet_yes x y e)) (tt, tt)
       single false e = subst (Ascending Precedes) (sym (meet_no x y e)) tt
 
-  lowers : (P : At → Type 0) (xs : List Stay) → All (λ x. P x.at) xs → All (λ m. P m.lower) (meetings_of xs)
+  lowers : (P : At → Type 0) (xs : List Stay) → AllByRecursion (λ x. P x.at) xs → AllByRecursion (λ m. P m.lower) (meetings_of xs)
   lowers P [] a = tt
   lowers P (x ∷ xs) a =
       All-append (λ m. P m.lower) (flat_map (meet_with x) xs) (meetings_of xs) (row_all (λ m. P m.lower) x xs (All-weaker (λ y. P y.at) _ (λ y _ _. a.0) xs a.1)) (lowers P xs a.1)
@@ -173,7 +173,7 @@ module _ (ps : List (List Stop)) where
   rows_ascend (x ∷ xs) a =
       let later = lowers (Earlier x.at) xs a.0 in
       ascending_append Precedes (flat_map (meet_with x) xs) (meetings_of xs) (row_ascends x xs a.1) (rows_ascend xs a.1)
-      (row_all (λ m. All (Precedes m) (meetings_of xs)) x xs (All-weaker (Before x) _ (λ y _ _. All-weaker (λ m. Earlier x.at m.lower) _ (λ m e. inl e) (meetings_of xs) later) xs a.0))
+      (row_all (λ m. AllByRecursion (Precedes m) (meetings_of xs)) x xs (All-weaker (Before x) _ (λ y _ _. All-weaker (λ m. Earlier x.at m.lower) _ (λ m e. inl e) (meetings_of xs) later) xs a.0))
 
   pub meetings_law : MeetingsLaw ps
   meetings_law = record {

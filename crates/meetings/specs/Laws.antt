@@ -1,6 +1,6 @@
 -- The laws of meetings, clashes and the plan's orders.
 use Rattle.std.specs.Prelude.{◌≡◌, ℕ, suc, ◌<◌, true, false, ◌⊎◌, List, [], ◌∷◌, length}
-use Rattle.std.specs.List.{ContainsAt as Has, AllByRecursion as All}
+use Rattle.std.specs.List.{ContainsAt, AllByRecursion}
 use Rattle.files.specs.declared.plan.Stop.{Stop}
 use Rattle.files.specs.Rules.{stop_at, path_at, PathsKeep}
 use Rattle.meetings.specs.declared.meet.First.{First}
@@ -45,12 +45,12 @@ Precedes m n = Earlier m.lower n.lower ⊎ ((m.lower ≡ n.lower) × Earlier m.o
 -- each comes before all later ones
 abbrev pub Ascending : {X : Type 0} → (X → X → Type 0) → List X → Type 0
 Ascending R [] = Unit {0}
-Ascending R (x ∷ xs) = All (R x) xs × Ascending R xs
+Ascending R (x ∷ xs) = AllByRecursion (R x) xs × Ascending R xs
 
 -- The list holds exactly the meetings of the plan, in meeting order.
 pub record MeetingsLaw (ps : List (List Stop)) : Type 0 where
-  pub sound : (m : Meeting) → Has (meetings ps) m → Meets ps m
-  pub complete : (m : Meeting) → Meets ps m → Has (meetings ps) m
+  pub sound : (m : Meeting) → ContainsAt (meetings ps) m → Meets ps m
+  pub complete : (m : Meeting) → Meets ps m → ContainsAt (meetings ps) m
   pub ordered : Ascending Precedes (meetings ps)
 
 abbrev pub SomeClash : List Stay → Type 0
@@ -71,4 +71,4 @@ OneFirst ps m Other = LeftBefore ps m.other m.lower × (LeftBefore ps m.lower m.
 
 -- Where no two stays clash, exactly one shuttle leaves each meeting strictly before the other enters: the one that goes first in the plan.
 abbrev pub FirstLaw : List (List Stop) → Type 0
-FirstLaw ps = PathsKeep ps → NoClash (stays ps) → (m : Meeting) → Has (meetings ps) m → OneFirst ps m m.first
+FirstLaw ps = PathsKeep ps → NoClash (stays ps) → (m : Meeting) → ContainsAt (meetings ps) m → OneFirst ps m m.first

@@ -1,6 +1,6 @@
 -- The guesses from a genuine order file are the orders that it was written of.
 use Rattle.std.proofs.Common.{◌≡◌, ℕ, ◌<◌, List, length, get_or, vec_items, ap, subst, arith}
-use Rattle.std.specs.List.{AllByRecursion as All}
+use Rattle.std.specs.List.{AllByRecursion}
 use Rattle.std.proofs.lemmas.List.{ext_get_or, length-map}
 use Rattle.files.specs.Views.{path_of, paths_of}
 use Rattle.meetings.specs.declared.meet.First.{First}
@@ -19,7 +19,7 @@ guesses_right p bs ms v is g fs f =
     let ts = vec_items p.tables in
     let xs = vec_items p.paths in
     let own = vec_items p.meetings in
-    let within : All (Ordered (length xs)) own = subst (λ n. All (Ordered n) own) (length-map xs path_of) (meetings_ordered (paths_of xs) ts own p.sound) in
+    let within : AllByRecursion (Ordered (length xs)) own = subst (λ n. AllByRecursion (Ordered n) own) (length-map xs path_of) (meetings_ordered (paths_of xs) ts own p.sound) in
     let apart = meetings_apart (paths_of xs) ts own p.sound in
     let same : length ms ≡ length own = ap length is in
     ext_get_or Lower v fs (omega (arith, f.0, g.0)) (λ k lt.

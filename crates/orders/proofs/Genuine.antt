@@ -1,6 +1,6 @@
 -- What a genuine order file shows of the orders that it was written of.
 use Rattle.std.proofs.Common.{◌≡◌, ℕ, zero, suc, ◌+◌, ◌-◌, ◌*◌, ◌/◌, ◌%◌, ◌<◌, ◌≤◌, Bool, true, false, cond, List, [], ◌∷◌, ◌++◌, length, get_or, filter, sym, refl, ap, ◌∙◌, subst, ⊎_elim, arith}
-use Rattle.std.specs.List.{flat_map, ContainsAt as Has, AllByRecursion as All}
+use Rattle.std.specs.List.{flat_map, ContainsAt, AllByRecursion}
 use Rattle.std.proofs.ByRecursion.{All-get_or, all_kept_by, all_has_itself, kept_by_passes, has_get_or}
 use Rattle.std.proofs.lemmas.List.{length-append, get_or_append_left, get_or-append_right}
 use Rattle.std.proofs.lemmas.Bool.{cond-true, eq-eqb, eqb-true, cases_lt}
@@ -71,14 +71,14 @@ module _ (n : ℕ) (ws : List Wait) (bs : List ℕ) (is : bs ≡ order_bytes n w
       )
 
 -- what passes stays
-has_kept : {X : Type 0} (p : X → Bool) (xs : List X) (x : X) (k : ℕ) → k < length xs → ((d : X) → get_or xs k d ≡ x) → p x ≡ true → Has (filter p xs) x
+has_kept : {X : Type 0} (p : X → Bool) (xs : List X) (x : X) (k : ℕ) → k < length xs → ((d : X) → get_or xs k d ≡ x) → p x ≡ true → ContainsAt (filter p xs) x
 has_kept p [] x k lt at e = absurd (omega arith)
 has_kept {X} p (y ∷ ys) x zero lt at e =
     let same : y ≡ x = at y in
-    subst (λ (l : List X). Has l x) (sym (cond-true (p y) (y ∷ filter p ys) (filter p ys) (ap p same ∙ e))) (0, omega arith, λ d. same)
+    subst (λ (l : List X). ContainsAt l x) (sym (cond-true (p y) (y ∷ filter p ys) (filter p ys) (ap p same ∙ e))) (0, omega arith, λ d. same)
 has_kept p (y ∷ ys) x (suc k) lt at e = go (p y) (has_kept p ys x k (omega arith) (λ d. at d) e)
   where
-    go : (b : Bool) → Has (filter p ys) x → Has (cond b (y ∷ filter p ys) (filter p ys)) x
+    go : (b : Bool) → ContainsAt (filter p ys) x → ContainsAt (cond b (y ∷ filter p ys) (filter p ys)) x
     go true r = (suc r.0, omega (arith, r.1), λ d. r.2 d)
     go false r = r
 
@@ -93,7 +93,7 @@ meeting_at ms k = get_or ms k no_meeting
 abbrev pub Apart : List Meeting → Type 0
 Apart ms = (k l : ℕ) → k < l → l < length ms → (meeting_at ms k).lower ≡ (meeting_at ms l).lower → (meeting_at ms k).other ≡ (meeting_at ms l).other → ⊥
 
-module _ (n : ℕ) (ms : List Meeting) (fs : List First) (bs : List ℕ) (is : bs ≡ order_bytes n (waits ms fs)) (len : length fs ≡ length ms) (within : All (Ordered n) ms) (apart : Apart ms) where
+module _ (n : ℕ) (ms : List Meeting) (fs : List First) (bs : List ℕ) (is : bs ≡ order_bytes n (waits ms fs)) (len : length fs ≡ length ms) (within : AllByRecursion (Ordered n) ms) (apart : Apart ms) where
   same_index : (k l : ℕ) → k < length ms → l < length ms → (meeting_at ms k).lower ≡ (meeting_at ms l).lower → (meeting_at ms k).other ≡ (meeting_at ms l).other → k ≡ l
   same_index k l kl ll p q =
       ⊎_elim (λ (less : k < l). absurd (apart k l less ll p q))
@@ -145,7 +145,7 @@ module _ (n : ℕ) (ms : List Meeting) (fs : List First) (bs : List ℕ) (is : b
       let mine = entry_there n ws bs is s e sn eb in
       let shuttle : x.second.shuttle ≡ s = eqb-true _ _ (All-get_or (λ y. is_second s y ≡ true) body e no_wait eb (kept_by_passes (is_second s) ws)) in
       let same : x ≡ wait_under m Other = (λ i. record { second = record { shuttle = shuttle i; stop = (sym mine.0 ∙ given.0) i }; awaited = record { shuttle = (sym mine.1 ∙ given.1) i; stop = (sym mine.2 ∙ given.2) i } }) in
-      let has = All-get_or (Has ws) body e no_wait eb (all_kept_by (is_second s) (Has ws) ws (all_has_itself ws)) in
+      let has = All-get_or (ContainsAt ws) body e no_wait eb (all_kept_by (is_second s) (ContainsAt ws) ws (all_has_itself ws)) in
       let ll : has.0 < length ms = omega (arith, length-waits ms fs, has.1) in
       other_first k has.0 lt ll (get_or fs has.0 Lower) refl (sym (wait_is has.0 ll) ∙ has.2 no_wait ∙ same)
 

@@ -3,7 +3,7 @@ use Rattle.std.proofs.Common.{◌≡◌, ℕ, zero, suc, ◌<◌, ◌≤◌, Lis
 use mathlib.Core.HLevel.{Unit-prop, ×_prop, ⊥_prop}
 use mathlib.Core.Logic.{∥∥₁_elim}
 use native.Mathlib.Bridge.{le_prop}
-use Rattle.std.specs.List.{AllByRecursion as All}
+use Rattle.std.specs.List.{AllByRecursion}
 use Rattle.std.proofs.ByRecursion.{All-from_get_or, All-get_or, has_get_or}
 use Rattle.files.specs.declared.plan.Stop.{Stop}
 use Rattle.files.specs.Bytes.{PathFits}
@@ -29,26 +29,26 @@ module _ (ps : List (List Stop)) (ts : List ℕ) (ms : List Meeting) where
       let path = All-get_or PathFits ps a.shuttle [] w.0 h.limits.stops in
       (omega (arith, h.limits.shuttles, w.0), omega (arith, path.1, w.1))
 
-  all_fit : Kept ps ts ms → All FitsMeeting ms
+  all_fit : Kept ps ts ms → AllByRecursion FitsMeeting ms
   all_fit h =
-      subst (All FitsMeeting) (sym h.listed)
+      subst (AllByRecursion FitsMeeting) (sym h.listed)
       (All-from_get_or FitsMeeting (meetings ps) no_meeting (λ i lt. let m = (meetings_law ps).sound (get_or (meetings ps) i no_meeting) (has_get_or (meetings ps) i no_meeting lt) in (stop_fits h _ m.lower, stop_fits h _ m.other)))
 
-fits_prop : (ms : List Meeting) → IsProp (All FitsMeeting ms)
+fits_prop : (ms : List Meeting) → IsProp (AllByRecursion FitsMeeting ms)
 fits_prop [] = Unit-prop
 fits_prop (m ∷ ms) = ×_prop (×_prop (×_prop le_prop le_prop) (×_prop le_prop le_prop)) (fits_prop ms)
 
-pub meetings_fit : (ps : List (List Stop)) (ts : List ℕ) (ms : List Meeting) → ∥ Kept ps ts ms ∥₁ → All FitsMeeting ms
+pub meetings_fit : (ps : List (List Stop)) (ts : List ℕ) (ms : List Meeting) → ∥ Kept ps ts ms ∥₁ → AllByRecursion FitsMeeting ms
 meetings_fit ps ts ms k = ∥∥₁_elim k (fits_prop ms) (all_fit ps ts ms)
 
 -- the meetings are of shuttles of the plan, the lower first
-ordered_prop : (n : ℕ) (ms : List Meeting) → IsProp (All (Ordered n) ms)
+ordered_prop : (n : ℕ) (ms : List Meeting) → IsProp (AllByRecursion (Ordered n) ms)
 ordered_prop n [] = Unit-prop
 ordered_prop n (m ∷ ms) = ×_prop (×_prop le_prop le_prop) (ordered_prop n ms)
 
-pub meetings_ordered : (ps : List (List Stop)) (ts : List ℕ) (ms : List Meeting) → ∥ Kept ps ts ms ∥₁ → All (Ordered (length ps)) ms
+pub meetings_ordered : (ps : List (List Stop)) (ts : List ℕ) (ms : List Meeting) → ∥ Kept ps ts ms ∥₁ → AllByRecursion (Ordered (length ps)) ms
 meetings_ordered ps ts ms k =
-    ∥∥₁_elim k (ordered_prop (length ps) ms) (λ h. subst (All (Ordered (length ps))) (sym h.listed)
+    ∥∥₁_elim k (ordered_prop (length ps) ms) (λ h. subst (AllByRecursion (Ordered (length ps))) (sym h.listed)
     (All-from_get_or (Ordered (length ps)) (meetings ps) no_meeting (λ i lt. let m = (meetings_law ps).sound (get_or (meetings ps) i no_meeting) (has_get_or (meetings ps) i no_meeting lt) in (m.ordered, m.other.0))))
 
 -- and no two have the same stops

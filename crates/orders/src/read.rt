@@ -1,6 +1,6 @@
 // Reading an order file back: the orders whose file it is, or that it is the file of none.
 ghost use Rattle.std.specs.Prelude.{◌≡◌, ◌^◌, ◌<◌, MatchBool, ◌≢◌, slice_index};
-ghost use Rattle.std.specs.List.{AllByRecursion as All};
+ghost use Rattle.std.specs.List.{AllByRecursion};
 ghost use Rattle.files.specs.Layout.{word};
 ghost use Rattle.orders.specs.declared.read.ReadFault.TheVariants.{Memory};
 ghost use Rattle.orders.specs.Plans.{plan_orders};
@@ -97,7 +97,7 @@ fn guess(bytes: &[u8], meeting: &Meeting) -> First
 
 // The guess at each meeting.
 fn guesses(heap: Global, bytes: &[u8], meetings: &[Meeting]) -> Result<Vec<First>, ReadFault>
-    requires { All FitsMeeting meetings.now }
+    requires { AllByRecursion FitsMeeting meetings.now }
     ensures { Guesses result bytes.now meetings.now }
 {
     let mut firsts = Vec::new(heap);

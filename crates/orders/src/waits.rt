@@ -1,6 +1,6 @@
 // Waits: at a meeting the second shuttle's stop waits for the first shuttle's following stop.
 ghost use Rattle.std.specs.Prelude.{◌≡◌, ◌<◌, ◌≤◌, length, IfOk};
-ghost use Rattle.std.specs.List.{AllByRecursion as All};
+ghost use Rattle.std.specs.List.{AllByRecursion};
 ghost use Rattle.orders.specs.Waits.{wait_under, wait_by_number, waits, firsts_of, own_waits, body_of, FitsMeeting};
 
 use meetings::meet::{First, Meeting};
@@ -70,7 +70,7 @@ pub fn plan_waits(heap: Global, plan: &Plan) -> Result<Vec<Wait>, AllocError>
 
 // How many waits a shuttle has.
 pub(crate) fn count_waits(meetings: &[Meeting], firsts: &[First], shuttle: usize) -> usize
-    requires { All FitsMeeting meetings.now }
+    requires { AllByRecursion FitsMeeting meetings.now }
     ensures count { result ≡ length (body_of shuttle (waits meetings.now firsts.now)) }
     ensures few { result ≤ length meetings.now }
 {

@@ -1,7 +1,7 @@
 // Writing an order file into a buffer.
 ghost use Rattle.std.specs.Prelude.{◌≡◌, ◌+◌, ◌*◌, ◌<◌, ◌≤◌, length};
 ghost use Rattle.files.specs.Bytes.{word_bytes};
-ghost use Rattle.std.specs.List.{range_with_len, flat_map, AllByRecursion as All};
+ghost use Rattle.std.specs.List.{range_with_len, flat_map, AllByRecursion};
 ghost use Rattle.orders.specs.File.{wait_bytes, body_bytes, body_at, entry_bytes, order_bytes, over, FitsWait, Written};
 ghost use Rattle.orders.specs.Plans.{plan_orders};
 ghost use Rattle.orders.specs.Waits.{waits, FitsMeeting};
@@ -45,7 +45,7 @@ fn put_body(
     shuttle: usize,
 ) -> usize
     requires space { at + length (body_bytes (waits meetings.now firsts.now) shuttle) ≤ length out.old }
-    requires fits { All FitsMeeting meetings.now }
+    requires fits { AllByRecursion FitsMeeting meetings.now }
     ensures bytes { out.new ≡ over out.old at (body_bytes (waits meetings.now firsts.now) shuttle) }
     ensures next { result ≡ at + length (body_bytes (waits meetings.now firsts.now) shuttle) }
 {
@@ -65,7 +65,7 @@ fn put_body(
 fn put_bodies(out: &mut [u8], shuttles: usize, meetings: &[Meeting], firsts: &[First])
     requires few { shuttles ≤ 32 }
     requires space { 2 + 4 * shuttles + length (flat_map (body_bytes (waits meetings.now firsts.now)) (range_with_len 0 shuttles)) ≤ length out.old }
-    requires fits { All FitsMeeting meetings.now }
+    requires fits { AllByRecursion FitsMeeting meetings.now }
     ensures { out.new ≡ over out.old (2 + 4 * shuttles) (flat_map (body_bytes (waits meetings.now firsts.now)) (range_with_len 0 shuttles)) }
 {
     let mut at = 2 + 4 * shuttles;
@@ -79,7 +79,7 @@ fn put_contents(out: &mut [u8], shuttles: usize, meetings: &[Meeting], firsts: &
     requires few { shuttles ≤ 32 }
     requires met { length meetings.now ≤ 256 }
     requires space { 2 + 4 * shuttles ≤ length out.old }
-    requires fits { All FitsMeeting meetings.now }
+    requires fits { AllByRecursion FitsMeeting meetings.now }
     ensures { out.new ≡ over out.old 2 (flat_map (entry_bytes shuttles (waits meetings.now firsts.now)) (range_with_len 0 shuttles)) }
 {
     let mut at = 2;
@@ -97,7 +97,7 @@ fn put_contents(out: &mut [u8], shuttles: usize, meetings: &[Meeting], firsts: &
 fn file_len(shuttles: usize, meetings: &[Meeting], firsts: &[First]) -> usize
     requires few { shuttles ≤ 32 }
     requires met { length meetings.now ≤ 256 }
-    requires fits { All FitsMeeting meetings.now }
+    requires fits { AllByRecursion FitsMeeting meetings.now }
     ensures { result ≡ body_at shuttles (waits meetings.now firsts.now) shuttles }
 {
     let mut end = 2 + 4 * shuttles;
@@ -115,7 +115,7 @@ fn put_orders(
 ) -> Result<usize, OrderFault>
     requires few { shuttles ≤ 32 }
     requires met { length meetings.now ≤ 256 }
-    requires fits { All FitsMeeting meetings.now }
+    requires fits { AllByRecursion FitsMeeting meetings.now }
     ensures { Written result (order_bytes shuttles (waits meetings.now firsts.now)) out.old out.new }
 {
     let len = file_len(shuttles, meetings, firsts);

@@ -1,6 +1,6 @@
 -- A plan is opened exactly when its file and its paths keep all rules.
 use Rattle.std.proofs.Common.{◌≡◌, ℕ, ◌≤◌, List, length, Ok, Err, vec_items, Result, sym, refl, ap, ◌∙◌, subst, arith}
-use Rattle.std.specs.List.{ContainsAt as Has}
+use Rattle.std.specs.List.{ContainsAt}
 use Rattle.std.proofs.lemmas.Bool.{both_ways}
 use Rattle.files.specs.declared.layout.FileFault.TheVariants.{Torn}
 use Rattle.files.specs.declared.layout.FileFault.TheVariants as file
@@ -93,6 +93,6 @@ firsts_stand bs (Ok p) o =
     let ps = (plan_layout p).paths in
     let k = o.1 in
     λ m h.
-    let there = subst (λ (l : List Meeting). Has l m) k.listed h in
+    let there = subst (λ (l : List Meeting). ContainsAt l m) k.listed h in
     ((meetings_law ps).sound m there, first_law ps k.rules (no_clash ps k.rules k.clear) m there)
 firsts_stand bs (Err e) o = tt

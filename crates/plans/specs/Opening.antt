@@ -1,6 +1,6 @@
 -- What opening a plan answers, and the numbers of its refusals.
 use Rattle.std.specs.Prelude.{◌≡◌, ℕ, ◌<◌, ◌≤◌, List, [], ◌∷◌, length, Some, None, Ok, Err, vec_items, Option, Result}
-use Rattle.std.specs.List.{ContainsAt as Has}
+use Rattle.std.specs.List.{ContainsAt}
 use Rattle.files.specs.declared.layout.FileFault.TheVariants.{Torn}
 use Rattle.files.specs.declared.layout.FileFault.TheVariants as file
 use Rattle.files.specs.Bytes.{plan_bytes, Limits}
@@ -71,5 +71,5 @@ OpensExactly r bs = ((p : Plan) → r ≡ Ok p → Takable bs (plan_layout p)) �
 -- At every meeting of a plan that is taken exactly one shuttle leaves strictly before the other enters, and the stop that the other waits for exists.
 abbrev pub FirstsStand : Result Plan PlanFault → Type 0
 FirstsStand (Ok p) =
-    (m : Meeting) → Has (vec_items p.meetings) m → Meets (plan_layout p).paths m × OneFirst (plan_layout p).paths m m.first
+    (m : Meeting) → ContainsAt (vec_items p.meetings) m → Meets (plan_layout p).paths m × OneFirst (plan_layout p).paths m m.first
 FirstsStand (Err e) = Unit {0}

@@ -4,7 +4,7 @@ use mathlib.Core.Logic.{∥∥₁_elim}
 use mathlib.Core.HLevel.{⊥_prop}
 use native.Mathlib.Bridge.{le_prop}
 use Rattle.std.specs.Option.{option_map}
-use Rattle.std.specs.List.{AllByRecursion as All}
+use Rattle.std.specs.List.{AllByRecursion}
 use Rattle.std.proofs.lemmas.Nat.{pow_pos}
 use Rattle.std.proofs.ByRecursion.{All-append, All-from_get_or, has_get_or}
 use Rattle.std.proofs.lemmas.Bool.{cond-true, lt-ltb}
@@ -73,17 +73,17 @@ nobody-named : bit 0 ≡ nobody
 nobody-named = λ i s. zero_bit s i
 
 -- what is waited for is a stop of a shuttle of the plan
-awaited_one : (n : ℕ) (a : At) (m : Meeting) (o : Option First) → Ordered n m → All (λ b. b.shuttle < n) (awaited_at a m o)
+awaited_one : (n : ℕ) (a : At) (m : Meeting) (o : Option First) → Ordered n m → AllByRecursion (λ b. b.shuttle < n) (awaited_at a m o)
 awaited_one n a m None h = tt
 awaited_one n a m (Some Lower) h = one_awaited _ _ _ (omega (arith, h.0, h.1))
 awaited_one n a m (Some Other) h = one_awaited _ _ _ h.1
 
-awaits_shuttles : (n : ℕ) (ms : List Meeting) (os : List (Option First)) (a : At) → All (Ordered n) ms → All (λ b. b.shuttle < n) (awaits ms os a)
+awaits_shuttles : (n : ℕ) (ms : List Meeting) (os : List (Option First)) (a : At) → AllByRecursion (Ordered n) ms → AllByRecursion (λ b. b.shuttle < n) (awaits ms os a)
 awaits_shuttles n [] os a h = tt
 awaits_shuttles n (m ∷ ms) [] a h = tt
 awaits_shuttles n (m ∷ ms) (o ∷ os) a h = All-append _ (awaited_at a m o) (awaits ms os a) (awaited_one n a m o h.0) (awaits_shuttles n ms os a h.1)
 
-ordered : (ps : List (List Stop)) → All (Ordered (length ps)) (meetings ps)
+ordered : (ps : List (List Stop)) → AllByRecursion (Ordered (length ps)) (meetings ps)
 ordered ps = All-from_get_or (Ordered (length ps)) (meetings ps) no_meeting (λ i lt. let m = (meetings_law ps).sound (get_or (meetings ps) i no_meeting) (has_get_or (meetings ps) i no_meeting lt) in (m.ordered, m.other.0))
 
 module _ (ps : List (List Stop)) (fs : List First) (xs : List Shuttle) (len : length xs ≡ length ps) where

@@ -4,7 +4,7 @@ use mathlib.Core.HLevel.{⊥_prop}
 use mathlib.Core.Logic.{∥∥₁_elim}
 use native.Mathlib.Bridge.{le_prop}
 use native.Mathlib.Decide.{dec_le}
-use Rattle.std.specs.List.{AllByRecursion as All}
+use Rattle.std.specs.List.{AllByRecursion}
 use Rattle.std.proofs.ByRecursion.{All-append}
 use Rattle.std.proofs.lemmas.List.{get_or-map, length-map}
 use Rattle.std.proofs.lemmas.Bool.{eq-eqb, and_from, cond-true}
@@ -33,12 +33,12 @@ use Rattle.run.specs.State.{State, paths_on, scene_now}
 
 -- what holds of all that a stop waits for, meeting by meeting
 module _ (P : At → Type 0) (a : At) where
-  awaits_each : (ms : List Meeting) (os : List (Option First)) → ((j : ℕ) → j < length ms → All P (awaited_at a (meeting_at ms j) (order_at os j))) → All P (awaits ms os a)
+  awaits_each : (ms : List Meeting) (os : List (Option First)) → ((j : ℕ) → j < length ms → AllByRecursion P (awaited_at a (meeting_at ms j) (order_at os j))) → AllByRecursion P (awaits ms os a)
   awaits_each [] os h = tt
   awaits_each (m ∷ ms) [] h = tt
   awaits_each (m ∷ ms) (o ∷ os) h = All-append P (awaited_at a m o) (awaits ms os a) (h zero (omega arith)) (awaits_each ms os (λ j lt. h (suc j) (omega arith)))
 
-  awaits-at : (ms : List Meeting) (os : List (Option First)) → All P (awaits ms os a) → (j : ℕ) → j < length ms → All P (awaited_at a (meeting_at ms j) (order_at os j))
+  awaits-at : (ms : List Meeting) (os : List (Option First)) → AllByRecursion P (awaits ms os a) → (j : ℕ) → j < length ms → AllByRecursion P (awaited_at a (meeting_at ms j) (order_at os j))
   awaits-at [] os h j lt = absurd (omega arith)
   awaits-at (m ∷ ms) [] h j lt = tt
   awaits-at (m ∷ ms) (o ∷ os) h zero lt = (all_split P (awaited_at a m o) (awaits ms os a) h).0
@@ -48,8 +48,8 @@ same_self : (a : At) → is_same_stop a a ≡ true
 same_self a = and_from _ _ (eq-eqb a.shuttle a.shuttle refl) (eq-eqb a.stop a.stop refl)
 
 -- at the second's own stop, what it waits for is there
-own_awaited : (P : At → Type 0) (m : Meeting) (f : First) → All P (awaited_at (wait_under m f).second m (Some f)) → P (wait_under m f).awaited
-own_awaited P m f h = (subst (All P) (cond-true _ _ _ (same_self (wait_under m f).second)) h).0
+own_awaited : (P : At → Type 0) (m : Meeting) (f : First) → AllByRecursion P (awaited_at (wait_under m f).second m (Some f)) → P (wait_under m f).awaited
+own_awaited P m f h = (subst (AllByRecursion P) (cond-true _ _ _ (same_self (wait_under m f).second)) h).0
 
 named-at : (fs : List First) (j : ℕ) → j < length fs → order_at (named fs) j ≡ Some (first_at fs j)
 named-at fs j lt = get_or-map (λ f. Some f) fs j Lower None lt
@@ -81,7 +81,7 @@ module _ (st : State) (orders : List First) (h : InForce (paths_on st) st.firsts
             let same : f ≡ first_at st.firsts j = agree j (omega (arith, lt, long)) (λ o. n (subst (λ (l : List Meeting). (wait_under (meeting_at l j) f).awaited.stop ≤ length (path_at (paths_on st) (wait_under (meeting_at l j) f).awaited.shuttle) - 1) listed (open_exists (meeting_at (vec_items st.plan.meetings) j) f o.1.lower.onward o.1.other.onward))) in
             let g = first_at st.firsts j in
             let there = awaits-at (λ b. b.stop ≤ length (path_at (paths_on st) b.shuttle) - 1) (wait_under m g).second ms (named st.firsts) (h.exist.awaited (wait_under m g).second) j lt in
-            let own : (wait_under m g).awaited.stop ≤ length (path_at (paths_on st) (wait_under m g).awaited.shuttle) - 1 = own_awaited (λ b. b.stop ≤ length (path_at (paths_on st) b.shuttle) - 1) m g (subst (λ (o : Option First). All (λ b. b.stop ≤ length (path_at (paths_on st) b.shuttle) - 1) (awaited_at (wait_under m g).second m o)) (named-at st.firsts j (omega (arith, lt, h.count))) there) in
+            let own : (wait_under m g).awaited.stop ≤ length (path_at (paths_on st) (wait_under m g).awaited.shuttle) - 1 = own_awaited (λ b. b.stop ≤ length (path_at (paths_on st) b.shuttle) - 1) m g (subst (λ (o : Option First). AllByRecursion (λ b. b.stop ≤ length (path_at (paths_on st) b.shuttle) - 1) (awaited_at (wait_under m g).second m o)) (named-at st.firsts j (omega (arith, lt, h.count))) there) in
             subst (λ (x : First). (wait_under m x).awaited.stop ≤ length (path_at (paths_on st) (wait_under m x).awaited.shuttle) - 1) (sym same) own
       ]
 
@@ -89,7 +89,7 @@ module _ (st : State) (orders : List First) (h : InForce (paths_on st) st.firsts
   scene_on_paths = record {
     within = h.exist.within;
     awaited = λ a. awaits_each (λ b. b.stop ≤ length (path_at (paths_on st) b.shuttle) - 1) a ms (named orders) (λ j lt.
-        subst (λ (o : Option First). All (λ b. b.stop ≤ length (path_at (paths_on st) b.shuttle) - 1) (awaited_at a (meeting_at ms j) o)) (sym (named-at orders j (omega (arith, lt, long))))
+        subst (λ (o : Option First). AllByRecursion (λ b. b.stop ≤ length (path_at (paths_on st) b.shuttle) - 1) (awaited_at a (meeting_at ms j) o)) (sym (named-at orders j (omega (arith, lt, long))))
         (one_awaited (λ b. b.stop ≤ length (path_at (paths_on st) b.shuttle) - 1) _ _ (awaited_exists j lt)));
   }
 

@@ -14,6 +14,7 @@
 // Orders have a letter for each meeting: L where the lower shuttle goes first, O where the other does, - where the meeting is left out. They may be too few or too many, or none.
 // A refusal is printed as its number.
 #![tactic(auto)]
+
 use anyhow::anyhow;
 use floor::entry::{SHUTTLES, STOPS};
 use meetings::meet::First;

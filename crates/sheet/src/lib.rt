@@ -1,5 +1,6 @@
 // The sheet of arrivals: tick and shuttle of each, by tick, then by shuttle.
 #![tactic(auto)]
+
 ghost use Rattle.sheet.specs.Laws.{DigitsReadBack, NoZeroLeads};
 
 pub mod cells;

@@ -1,7 +1,7 @@
 -- Entry ticks are unique.
 use Rattle.std.proofs.Common.{◌≡◌, ℕ, zero, suc, ◌+◌, ◌<◌, ◌≤◌, max, cond, eqb, List, [], ◌∷◌, map, sym, refl, ap, ◌∙◌, ap₂, le_refl, arith}
 use native.Mathlib.Decide.{dec_le}
-use Rattle.std.specs.List.{AllByRecursion as All}
+use Rattle.std.specs.List.{AllByRecursion}
 use Rattle.meetings.specs.declared.stays.At.{At}
 use Rattle.traffic.specs.Laws.{EntryTicksAgree}
 use Rattle.traffic.specs.Scene.{Scene, at, Numbers, number, greatest, own, rule, EntryTicks, OnPaths}
@@ -9,7 +9,7 @@ use Rattle.traffic.specs.Scene.{Scene, at, Numbers, number, greatest, own, rule,
 -- numbers that agree wherever the first is at most n, on paths, give one list
 same_list :
     (c : Scene) (e f : Numbers) (n : ℕ) → ((s i : ℕ) → i ≤ c.last s → e s i ≤ n → e s i ≡ f s i) → (l : List At)
-    → All (λ a. a.stop ≤ c.last a.shuttle) l → greatest (map (number e) l) ≤ n → map (number e) l ≡ map (number f) l
+    → AllByRecursion (λ a. a.stop ≤ c.last a.shuttle) l → greatest (map (number e) l) ≤ n → map (number e) l ≡ map (number f) l
 same_list c e f n h [] w b = refl
 same_list c e f n h (a ∷ l) w b =
     ap₂ (λ x (xs : List ℕ). x ∷ xs) (h a.shuttle a.stop w.0 (omega arith)) (same_list c e f n h l w.1 (omega arith))

@@ -1,6 +1,6 @@
 -- A stop's waits are found at the meetings in which it takes part.
 use Rattle.std.proofs.Common.{◌≡◌, ℕ, zero, suc, ◌+◌, ◌<◌, ◌≤◌, Bool, true, false, cond, List, [], ◌∷◌, ◌++◌, length, Some, None, filter, Option, sym, refl, ap, ◌∙◌, ap₂, append_assoc, arith}
-use Rattle.std.specs.List.{range_with_len, AllByRecursion as All}
+use Rattle.std.specs.List.{range_with_len, AllByRecursion}
 use Rattle.std.proofs.ByRecursion.{all_kept_by}
 use Rattle.std.proofs.lemmas.Bool.{or_parts, cond-false}
 use Rattle.meetings.specs.declared.meet.First.{First}
@@ -56,9 +56,9 @@ awaited_in_append ms orders a (j ∷ js) ks =
     let here = awaited_at a (meeting_at ms j) (order_at orders j) in
     ap (λ l. here ++ l) (awaited_in_append ms orders a js ks) ∙ sym (append_assoc here (awaited_in ms orders a js) (awaited_in ms orders a ks))
 
-counted_below : (k n m : ℕ) → k + n ≤ m → All (λ j. j < m) (range_with_len k n)
+counted_below : (k n m : ℕ) → k + n ≤ m → AllByRecursion (λ j. j < m) (range_with_len k n)
 counted_below k zero m h = tt
 counted_below k (suc n) m h = (omega arith, counted_below (k + 1) n m (omega arith))
 
-pub kept_below : (ms : List Meeting) (a : At) → All (λ j. j < length ms) (meetings_at ms a)
+pub kept_below : (ms : List Meeting) (a : At) → AllByRecursion (λ j. j < length ms) (meetings_at ms a)
 kept_below ms a = all_kept_by (λ j. has_part a (meeting_at ms j)) (λ j. j < length ms) (range_with_len 0 (length ms)) (counted_below 0 (length ms) (length ms) (omega arith))

@@ -1,6 +1,6 @@
 -- The scene of a plan keeps what the laws ask.
 use Rattle.std.proofs.Common.{◌≡◌, ℕ, zero, suc, ◌-◌, ◌<◌, ◌≤◌, Bool, true, false, cond, eqb, ◌⊎◌, List, [], ◌∷◌, length, get_or, sym, refl, ap, ◌∙◌, subst, inl, inr, ⊎_elim, arith}
-use Rattle.std.specs.List.{ContainsAt as Has, AllByRecursion as All}
+use Rattle.std.specs.List.{ContainsAt, AllByRecursion}
 use Rattle.std.proofs.ByRecursion.{All-append, All-from_get_or, has_get_or, has_append_left, has_append_right}
 use Rattle.std.proofs.lemmas.List.{get_or_past}
 use Rattle.std.proofs.lemmas.Bool.{and_parts, and_from, eqb-true, eq-eqb, cond-true, cond-false, cases_lt}
@@ -30,14 +30,14 @@ same_stop a b e =
     λ j. record { shuttle = s j; stop = i j }
 
 -- what holds of a wait holds of what a stop waits for by it
-by_all : (P : At → At → Type 0) (a : At) (w : Wait) → P w.second w.awaited → All (P a) (awaited_by a w)
+by_all : (P : At → At → Type 0) (a : At) (w : Wait) → P w.second w.awaited → AllByRecursion (P a) (awaited_by a w)
 by_all P a w h = go (is_same_stop w.second a) refl
   where
-    go : (b : Bool) → is_same_stop w.second a ≡ b → All (P a) (cond b (w.awaited ∷ []) [])
+    go : (b : Bool) → is_same_stop w.second a ≡ b → AllByRecursion (P a) (cond b (w.awaited ∷ []) [])
     go true e = (subst (λ (x : At). P x w.awaited) (same_stop w.second a e) h, tt)
     go false e = tt
 
-pub own_all : (P : At → At → Type 0) (ms : List Meeting) (a : At) → All (λ m. P (wait_under m m.first).second (wait_under m m.first).awaited) ms → All (P a) (awaits ms (named (firsts_of ms)) a)
+pub own_all : (P : At → At → Type 0) (ms : List Meeting) (a : At) → AllByRecursion (λ m. P (wait_under m m.first).second (wait_under m m.first).awaited) ms → AllByRecursion (P a) (awaits ms (named (firsts_of ms)) a)
 own_all P [] a h = tt
 own_all P (m ∷ ms) a h = All-append (P a) (awaited_by a (wait_under m m.first)) (awaits ms (named (firsts_of ms)) a) (by_all P a (wait_under m m.first) h.0) (own_all P ms a h.1)
 
@@ -50,7 +50,7 @@ module _ (ps : List (List Stop)) where
   early m Lower o = (o.0.0, o.0.1)
   early m Other o = (o.0.0, o.0.1)
 
-  pub all_early : PathsKeep ps → NoCollision ps → All (λ m. Early (wait_under m m.first).second (wait_under m m.first).awaited) (meetings ps)
+  pub all_early : PathsKeep ps → NoCollision ps → AllByRecursion (λ m. Early (wait_under m m.first).second (wait_under m m.first).awaited) (meetings ps)
   all_early keeps clear =
       All-from_get_or _ (meetings ps) no_meeting (λ k lt. let m = get_or (meetings ps) k no_meeting in early m m.first (first_law ps keeps (no_clash ps keeps clear) m (has_get_or (meetings ps) k no_meeting lt)))
 
@@ -79,14 +79,14 @@ fresh_runs_have_no_ring ps keeps clear =
 -- the wait at a meeting is among what its stop waits for
 wait_there :
     (ms : List Meeting) (fs : List First) (m : Meeting) (k : ℕ) → k < length ms → ((d : Meeting) → get_or ms k d ≡ m) → length fs ≡ length ms
-    → (f : First) × Has (awaits ms (named fs) (wait_under m f).second) (wait_under m f).awaited
+    → (f : First) × ContainsAt (awaits ms (named fs) (wait_under m f).second) (wait_under m f).awaited
 wait_there [] fs m k lt is e = absurd (omega arith)
 wait_there (x ∷ ms) [] m k lt is e = absurd (omega arith)
 wait_there (x ∷ ms) (f ∷ fs) m zero lt is e =
     let w = wait_under m f in
     let same : x ≡ m = is x in
     let one : awaited_by w.second (wait_under x f) ≡ w.awaited ∷ [] = ap (λ (y : Meeting). awaited_by w.second (wait_under y f)) same ∙ cond-true (is_same_stop w.second w.second) (w.awaited ∷ []) [] (and_from _ _ (eq-eqb w.second.shuttle w.second.shuttle refl) (eq-eqb w.second.stop w.second.stop refl)) in
-    (f, has_append_left (awaited_by w.second (wait_under x f)) (awaits ms (named fs) w.second) w.awaited (subst (λ (l : List At). Has l w.awaited) (sym one) (0, omega arith, λ d. refl)))
+    (f, has_append_left (awaited_by w.second (wait_under x f)) (awaits ms (named fs) w.second) w.awaited (subst (λ (l : List At). ContainsAt l w.awaited) (sym one) (0, omega arith, λ d. refl)))
 wait_there (x ∷ ms) (f ∷ fs) m (suc k) lt is e =
     let r = wait_there ms fs m k (omega arith) (λ d. is d) (omega arith) in
     (r.0, has_append_right (awaited_by (wait_under m r.0).second (wait_under x f)) (awaits ms (named fs) (wait_under m r.0).second) _ r.1)
@@ -94,15 +94,15 @@ wait_there (x ∷ ms) (f ∷ fs) m (suc k) lt is e =
 -- one of two stops that meet waits for the stop after the other
 one_waits :
     (ps : List (List Stop)) (fs : List First) → length fs ≡ length (meetings ps) → (a b : At) → StopOf ps a → StopOf ps b → a.shuttle < b.shuttle → (stop_of ps a).place ≡ (stop_of ps b).place
-    → Has (awaits (meetings ps) (named fs) a) (at b.shuttle (suc b.stop)) ⊎ Has (awaits (meetings ps) (named fs) b) (at a.shuttle (suc a.stop))
+    → ContainsAt (awaits (meetings ps) (named fs) a) (at b.shuttle (suc b.stop)) ⊎ ContainsAt (awaits (meetings ps) (named fs) b) (at a.shuttle (suc a.stop))
 one_waits ps fs len a b v w less same =
     let m = meeting_between (stay_of ps a) (stay_of ps b) in
     let has = (meetings_law ps).complete m (record { lower = v; other = w; ordered = less; place = same; first = (λ e. cond-true (is_left_before (stay_of ps a) (stay_of ps b)) Lower Other e, λ e. cond-false (is_left_before (stay_of ps a) (stay_of ps b)) Lower Other e) }) in
     let r = wait_there (meetings ps) fs m has.0 has.1 has.2 len in
     go r.0 r.1
   where
-    go : (f : First) → Has (awaits (meetings ps) (named fs) (wait_under (meeting_between (stay_of ps a) (stay_of ps b)) f).second) (wait_under (meeting_between (stay_of ps a) (stay_of ps b)) f).awaited
-        → Has (awaits (meetings ps) (named fs) a) (at b.shuttle (suc b.stop)) ⊎ Has (awaits (meetings ps) (named fs) b) (at a.shuttle (suc a.stop))
+    go : (f : First) → ContainsAt (awaits (meetings ps) (named fs) (wait_under (meeting_between (stay_of ps a) (stay_of ps b)) f).second) (wait_under (meeting_between (stay_of ps a) (stay_of ps b)) f).awaited
+        → ContainsAt (awaits (meetings ps) (named fs) a) (at b.shuttle (suc b.stop)) ⊎ ContainsAt (awaits (meetings ps) (named fs) b) (at a.shuttle (suc a.stop))
     go Lower h = inr h
     go Other h = inl h
 

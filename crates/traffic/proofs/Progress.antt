@@ -1,6 +1,6 @@
 -- Progress of one step.
 use Rattle.std.proofs.Common.{◌≡◌, ℕ, zero, suc, ◌+◌, ◌-◌, ◌<◌, ◌≤◌, Bool, true, false, cond, List, [], ◌∷◌, map, sum_by, sym, refl, ap, ◌∙◌, subst, ⊎_elim, add-one, arith}
-use Rattle.std.specs.List.{range_with_len, ContainsAt as Has, AllByRecursion as All}
+use Rattle.std.specs.List.{range_with_len, ContainsAt, AllByRecursion}
 use Rattle.std.proofs.ByRecursion.{all-has}
 use Rattle.std.proofs.lemmas.List.Sums.{sum_by_push}
 use Rattle.std.proofs.lemmas.Bool.{and_cases, leb-false, cases_Bool, cases_lt, both_ways}
@@ -36,7 +36,7 @@ pub ticks_never_raise : TicksNeverRaise
 ticks_never_raise c stands n = sum_le (share (tick c stands)) (share c) (share_le c stands) n
 
 -- a test of all that fails fails at one
-not_every : {X : Type 0} (p : X → Bool) (l : List X) → every p l ≡ false → (x : X) × Has l x × (p x ≡ false)
+not_every : {X : Type 0} (p : X → Bool) (l : List X) → every p l ≡ false → (x : X) × ContainsAt l x × (p x ≡ false)
 not_every p [] e = absurd (both_ways true e refl)
 not_every p (x ∷ l) e =
     ⊎_elim
@@ -44,7 +44,7 @@ not_every p (x ∷ l) e =
     (λ (there : every p l ≡ false). let r = not_every p l there in (r.0, (suc r.1.0, omega (arith, r.1.1), λ d. r.1.2 d), r.2))
     (and_cases (p x) (every p l) e)
 
-module _ (c : Scene) (n : ℕ) (on : OnPaths c) (e : Numbers) (ee : EntryTicks c e) (few : (a : At) → All (λ b. b.shuttle < n) (c.waits a)) where
+module _ (c : Scene) (n : ℕ) (on : OnPaths c) (e : Numbers) (ee : EntryTicks c e) (few : (a : At) → AllByRecursion (λ b. b.shuttle < n) (c.waits a)) where
   held_falls : (s : ℕ) → 0 < c.hold s → share (tick c nobody) s < share c s
   held_falls s h = omega arith
 

@@ -1,7 +1,7 @@
 -- Entry ticks exist exactly when there is a ranking; so what keeps a ranking makes no ring.
 use Rattle.std.proofs.Common.{◌≡◌, ℕ, zero, suc, ◌+◌, ◌<◌, ◌≤◌, max, Bool, true, false, cond, not, ◌&&◌, eqb, ltb, leb, List, [], ◌∷◌, map, sym, refl, ◌∙◌, ap₂, arith}
 use native.Mathlib.Decide.{dec_le}
-use Rattle.std.specs.List.{ContainsAt as Has, AllByRecursion as All}
+use Rattle.std.specs.List.{ContainsAt, AllByRecursion}
 use Rattle.std.proofs.ByRecursion.{All-weaker, all-has}
 use Rattle.std.proofs.lemmas.Bool.{le-leb, lt-leb, lt-ltb, ltb-true, eqb-true, eq-eqb, and_parts, and_from, not-true, not_from_false, cond-true, cond-false}
 use Rattle.meetings.specs.declared.stays.At.{At}
@@ -9,7 +9,7 @@ use Rattle.meetings.proofs.Counts.{all_both}
 use Rattle.traffic.specs.Laws.{with_holds, with_waits, RankedExactly, HoldsMakeNoRing, TicksMakeNoRing, FewerMakeNoRing}
 use Rattle.traffic.specs.Scene.{Scene, at, every, done, moves, tick, Numbers, number, greatest, rule, EntryTicks, Ranks, OnPaths}
 
-pub below_greatest : (e : Numbers) (l : List At) → All (λ a. number e a ≤ greatest (map (number e) l)) l
+pub below_greatest : (e : Numbers) (l : List At) → AllByRecursion (λ a. number e a ≤ greatest (map (number e) l)) l
 below_greatest e [] = tt
 below_greatest e (a ∷ l) = (omega arith, All-weaker _ _ (λ b h. omega arith) l (below_greatest e l))
 
@@ -35,7 +35,7 @@ module _ (c : Scene) (ρ : Numbers) (on : OnPaths c) (ranks : Ranks c ρ) where
   by_ahead : (n s i : ℕ) → c.entered s ≤ i → by c (suc n) s (suc i) ≡ rule c (by c n) s i
   by_ahead n s i p = cond-false _ _ _ (lt-leb (suc i) (c.entered s) (omega arith))
 
-  list_same : (e f : Numbers) (l : List At) → All (λ a. number e a ≡ number f a) l → map (number e) l ≡ map (number f) l
+  list_same : (e f : Numbers) (l : List At) → AllByRecursion (λ a. number e a ≡ number f a) l → map (number e) l ≡ map (number f) l
   list_same e f [] h = refl
   list_same e f (a ∷ l) h = ap₂ (λ x (xs : List ℕ). x ∷ xs) h.0 (list_same e f l h.1)
 
@@ -45,7 +45,7 @@ module _ (c : Scene) (ρ : Numbers) (on : OnPaths c) (ranks : Ranks c ρ) where
       → ((t k : ℕ) → k ≤ c.entered t → e t k ≡ f t k) → rule c e s i ≡ rule c f s i
   rule-same e f s i p q h z =
       let ws = c.waits (at s (suc i)) in
-      let each : All (λ a. number e a ≡ number f a) ws = all_both _ _ _ (λ a w r. elim (dec_le a.stop (c.entered a.shuttle)) [ yes d ↦ z a.shuttle a.stop d | no n ↦ h a.shuttle a.stop w (r (omega arith)) ]) ws (on.awaited (at s (suc i))) (ranks.across s i p q) in
+      let each : AllByRecursion (λ a. number e a ≡ number f a) ws = all_both _ _ _ (λ a w r. elim (dec_le a.stop (c.entered a.shuttle)) [ yes d ↦ z a.shuttle a.stop d | no n ↦ h a.shuttle a.stop w (r (omega arith)) ]) ws (on.awaited (at s (suc i))) (ranks.across s i p q) in
       ap₂ (λ x xs. suc (max (x + cond (eqb i (c.entered s)) (c.hold s) 0) (greatest xs))) (h s i (omega arith) (ranks.along s i p q)) (list_same e f ws each)
 
   by-same : (n m s i : ℕ) → ρ s i < n → ρ s i < m → i ≤ c.last s → by c n s i ≡ by c m s i
@@ -78,10 +78,10 @@ pub fewer_make_no_ring : FewerMakeNoRing
 fewer_make_no_ring c fewer on among r =
     let k = ticks_rank c r.0 r.1 in
     let Less : ℕ → At → Type 0 = λ n a. c.entered a.shuttle < a.stop → number r.0 a < n in
-    (ranked_exactly (with_waits c fewer) (record { within = on.within; awaited = λ a. All-weaker (Has (c.waits a)) _ (λ b h. all-has (λ b. b.stop ≤ c.last b.shuttle) (c.waits a) b (on.awaited a) h) (fewer a) (among a) })).1 r.0
+    (ranked_exactly (with_waits c fewer) (record { within = on.within; awaited = λ a. All-weaker (ContainsAt (c.waits a)) _ (λ b h. all-has (λ b. b.stop ≤ c.last b.shuttle) (c.waits a) b (on.awaited a) h) (fewer a) (among a) })).1 r.0
     (record {
       along = k.along;
-      across = λ s i p q. All-weaker (Has (c.waits (at s (suc i)))) _ (λ b h. all-has (Less (r.0 s (suc i))) (c.waits (at s (suc i))) b (k.across s i p q) h) (fewer (at s (suc i))) (among (at s (suc i)));
+      across = λ s i p q. All-weaker (ContainsAt (c.waits (at s (suc i)))) _ (λ b h. all-has (Less (r.0 s (suc i))) (c.waits (at s (suc i))) b (k.across s i p q) h) (fewer (at s (suc i))) (among (at s (suc i)));
     })
 
 -- what a move shows

@@ -1,7 +1,7 @@
 -- Safety of one step.
 use Rattle.std.proofs.Common.{◌≡◌, ℕ, suc, ◌+◌, ◌≤◌, Bool, true, false, cond, List, [], ◌∷◌, refl, subst, ⊎_elim, arith}
 use native.Mathlib.Decide.{dec_le}
-use Rattle.std.specs.List.{ContainsAt as Has, AllByRecursion as All}
+use Rattle.std.specs.List.{ContainsAt, AllByRecursion}
 use Rattle.std.proofs.ByRecursion.{All-weaker, all-has}
 use Rattle.std.proofs.lemmas.Bool.{and_parts, leb-true}
 use Rattle.meetings.specs.declared.stays.At.{At}
@@ -9,28 +9,28 @@ use Rattle.traffic.specs.Safety.{TicksKeepWaits, ChangesKeepWaits, NoTwoInOnePla
 use Rattle.traffic.specs.Scene.{Scene, at, every, done, moves}
 use Rattle.traffic.proofs.Ranking.{moved}
 
-every-done : (c : Scene) (l : List At) → every (done c) l ≡ true → All (λ b. b.stop ≤ c.entered b.shuttle) l
+every-done : (c : Scene) (l : List At) → every (done c) l ≡ true → AllByRecursion (λ b. b.stop ≤ c.entered b.shuttle) l
 every-done c [] h = tt
 every-done c (b ∷ l) h = let p = and_parts (done c b) (every (done c) l) h in (leb-true _ _ p.0, every-done c l p.1)
 
 pub ticks_keep_waits : TicksKeepWaits
 ticks_keep_waits c before stands w = record { onward = λ s. omega arith; kept = λ s i p. go s i (moves c stands s) refl p }
   where
-    old : (s i : ℕ) → i ≤ c.entered s → All (λ b. b.stop ≤ c.entered b.shuttle) (c.waits (at s i))
+    old : (s i : ℕ) → i ≤ c.entered s → AllByRecursion (λ b. b.stop ≤ c.entered b.shuttle) (c.waits (at s i))
     old s i p = All-weaker _ _ (λ b h. omega (arith, h, w.onward b.shuttle)) (c.waits (at s i)) (w.kept s i p)
 
-    go : (s i : ℕ) (t : Bool) → moves c stands s ≡ t → i ≤ c.entered s + cond t 1 0 → All (λ b. b.stop ≤ c.entered b.shuttle) (c.waits (at s i))
+    go : (s i : ℕ) (t : Bool) → moves c stands s ≡ t → i ≤ c.entered s + cond t 1 0 → AllByRecursion (λ b. b.stop ≤ c.entered b.shuttle) (c.waits (at s i))
     go s i true m p =
         elim (dec_le i (c.entered s)) [
           | yes q ↦ old s i q
-          | no q ↦ (let e : suc (c.entered s) ≡ i = omega arith in subst (λ k. All (λ b. b.stop ≤ c.entered b.shuttle) (c.waits (at s k))) e (every-done c _ (moved c stands s m).ready))
+          | no q ↦ (let e : suc (c.entered s) ≡ i = omega arith in subst (λ k. AllByRecursion (λ b. b.stop ≤ c.entered b.shuttle) (c.waits (at s k))) e (every-done c _ (moved c stands s m).ready))
         ]
     go s i false m p = old s i (omega arith)
 
 pub changes_keep_waits : ChangesKeepWaits
 changes_keep_waits c before waits same w = record {
   onward = w.onward;
-  kept = λ s i p. All-weaker (Has (c.waits (at s i))) _ (λ b h. all-has (λ b. b.stop ≤ before b.shuttle) (c.waits (at s i)) b (w.kept s i p) h) (waits (at s i)) (same s i p);
+  kept = λ s i p. All-weaker (ContainsAt (c.waits (at s i))) _ (λ b h. all-has (λ b. b.stop ≤ before b.shuttle) (c.waits (at s i)) b (w.kept s i p) h) (waits (at s i)) (same s i p);
 }
 
 pub no_two_in_one_place : NoTwoInOnePlace

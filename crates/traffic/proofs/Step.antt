@@ -1,7 +1,7 @@
 -- After an undisturbed tick every entry tick is one less, down to 0; so n ticks bring a shuttle to the stops whose entry tick is at most n.
 use Rattle.std.proofs.Common.{◌≡◌, ℕ, zero, suc, ◌+◌, ◌-◌, ◌<◌, ◌≤◌, Bool, true, false, cond, eqb, List, [], ◌∷◌, map, sym, refl, ◌∙◌, subst, arith}
 use native.Mathlib.Decide.{dec_le}
-use Rattle.std.specs.List.{AllByRecursion as All}
+use Rattle.std.specs.List.{AllByRecursion}
 use Rattle.std.proofs.lemmas.Bool.{le-leb, leb-true, and_parts, and_from, both_ways}
 use Rattle.std.proofs.lemmas.Bool.Decides.{nat_tests}
 use Rattle.meetings.specs.declared.stays.At.{At}
@@ -23,7 +23,7 @@ module _ (c : Scene) (e : Numbers) (on : OnPaths c) (ee : EntryTicks c e) where
   zero_done s zero b z = omega arith
   zero_done s (suc i) b z = elim (dec_le (suc i) (c.entered s)) [ yes p ↦ p | no q ↦ (let r : e s (suc i) ≡ rule c e s i = ee.ahead s i (omega arith) (omega arith) in absurd (omega arith)) ]
 
-  all_done : (l : List At) → All (λ a. a.stop ≤ c.last a.shuttle) l → greatest (map (number e) l) ≡ 0 → every (done c) l ≡ true
+  all_done : (l : List At) → AllByRecursion (λ a. a.stop ≤ c.last a.shuttle) l → greatest (map (number e) l) ≡ 0 → every (done c) l ≡ true
   all_done [] w z = refl
   all_done (a ∷ l) w z =
       and_from _ _ (le-leb _ _ (zero_done a.shuttle a.stop w.0 (omega arith))) (all_done l w.1 (omega arith))

@@ -1,7 +1,7 @@
 -- A sweep along all paths works out the entry ticks, or stops at a ring.
 use Rattle.std.proofs.Common.{◌≡◌, ℕ, zero, suc, ◌+◌, ◌<◌, ◌≤◌, max, cond, eqb, ◌⊎◌, List, [], ◌∷◌, map, sym, refl, ◌∙◌, subst, ap₂, subst₂, inl, inr, ⊎_elim, le_refl, arith}
 use native.Mathlib.Decide.{dec_le, dec_lt, ℕ_discrete}
-use Rattle.std.specs.List.{AllByRecursion as All}
+use Rattle.std.specs.List.{AllByRecursion}
 use Rattle.std.proofs.ByRecursion.{All-weaker}
 use Rattle.std.proofs.lemmas.Bool.{cond_both}
 use Rattle.meetings.specs.declared.stays.At.{At}
@@ -10,12 +10,12 @@ use Rattle.traffic.specs.Scene.{Scene, at, Numbers, number, greatest, rule, Entr
 use Rattle.traffic.specs.Sweep.{Ready, Sofar, Timed}
 use Rattle.traffic.proofs.Ranking.{below_greatest}
 
-list_same : (e f : Numbers) (l : List At) → All (λ a. number e a ≡ number f a) l → map (number e) l ≡ map (number f) l
+list_same : (e f : Numbers) (l : List At) → AllByRecursion (λ a. number e a ≡ number f a) l → map (number e) l ≡ map (number f) l
 list_same e f [] h = refl
 list_same e f (a ∷ l) h = ap₂ (λ x (xs : List ℕ). x ∷ xs) h.0 (list_same e f l h.1)
 
 -- the rule gives the same where all that it looks at is the same
-rule-same : (c : Scene) (e f : Numbers) (s i : ℕ) → e s i ≡ f s i → All (λ a. number e a ≡ number f a) (c.waits (at s (suc i))) → rule c e s i ≡ rule c f s i
+rule-same : (c : Scene) (e f : Numbers) (s i : ℕ) → e s i ≡ f s i → AllByRecursion (λ a. number e a ≡ number f a) (c.waits (at s (suc i))) → rule c e s i ≡ rule c f s i
 rule-same c e f s i h each =
     ap₂ (λ x xs. suc (max (x + cond (eqb i (c.entered s)) (c.hold s) 0) (greatest xs))) h (list_same e f (c.waits (at s (suc i))) each)
 

@@ -1,6 +1,6 @@
 -- The laws of traffic.
 use Rattle.std.specs.Prelude.{◌≡◌, ℕ, suc, ◌<◌, ◌≤◌, Bool, List}
-use Rattle.std.specs.List.{ContainsAt as Has, AllByRecursion as All}
+use Rattle.std.specs.List.{ContainsAt, AllByRecursion}
 use Rattle.meetings.specs.declared.stays.At.{At}
 use Rattle.traffic.specs.Scene.{Scene, at, tick, ticks, Numbers, number, EntryTicks, NoRing, Ranks, OnPaths}
 
@@ -13,7 +13,7 @@ with_waits c waits = record { entered = c.entered; last = c.last; hold = c.hold;
 
 -- one says at least what the other says
 abbrev pub Among : (At → List At) → (At → List At) → Type 0
-Among fewer more = (a : At) → All (Has (more a)) (fewer a)
+Among fewer more = (a : At) → AllByRecursion (ContainsAt (more a)) (fewer a)
 
 -- Entry ticks are unique.
 abbrev pub EntryTicksAgree : Type 0
@@ -49,4 +49,4 @@ MoreIsLater =
 abbrev pub SatisfiedIsSame : Type 0
 SatisfiedIsSame =
     (c : Scene) (more : At → List At) (e : Numbers) → Among c.waits more → EntryTicks c e
-    → ((s i : ℕ) → c.entered s ≤ i → i < c.last s → All (λ b. number e b < e s (suc i)) (more (at s (suc i)))) → EntryTicks (with_waits c more) e
+    → ((s i : ℕ) → c.entered s ≤ i → i < c.last s → AllByRecursion (λ b. number e b < e s (suc i)) (more (at s (suc i)))) → EntryTicks (with_waits c more) e

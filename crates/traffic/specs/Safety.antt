@@ -1,6 +1,6 @@
 -- The laws of safety and progress.
 use Rattle.std.specs.Prelude.{◌≡◌, ℕ, suc, ◌+◌, ◌-◌, ◌<◌, ◌≤◌, Bool, ◌⊎◌, List, sum_by, ◌≢◌}
-use Rattle.std.specs.List.{range_with_len, ContainsAt as Has, AllByRecursion as All}
+use Rattle.std.specs.List.{range_with_len, ContainsAt, AllByRecursion}
 use Rattle.meetings.specs.declared.stays.At.{At}
 use Rattle.traffic.specs.Laws.{with_waits}
 use Rattle.traffic.specs.Scene.{Scene, at, tick, nobody, NoRing, OnPaths}
@@ -8,7 +8,7 @@ use Rattle.traffic.specs.Scene.{Scene, at, tick, nobody, NoRing, OnPaths}
 -- Every stop that was entered waited until all that it waits for had been entered before the last tick. `before` has the stops as they were then.
 pub record Waited (c : Scene) (before : ℕ → ℕ) : Type 0 where
   pub onward : (s : ℕ) → before s ≤ c.entered s
-  pub kept : (s i : ℕ) → i ≤ c.entered s → All (λ b. b.stop ≤ before b.shuttle) (c.waits (at s i))
+  pub kept : (s i : ℕ) → i ≤ c.entered s → AllByRecursion (λ b. b.stop ≤ before b.shuttle) (c.waits (at s i))
 
 -- So it is after any tick.
 abbrev pub TicksKeepWaits : Type 0
@@ -17,14 +17,14 @@ TicksKeepWaits = (c : Scene) (before : ℕ → ℕ) (stands : ℕ → Bool) → 
 -- And after a change of what stops wait for that leaves entered stops as they were.
 abbrev pub ChangesKeepWaits : Type 0
 ChangesKeepWaits =
-    (c : Scene) (before : ℕ → ℕ) (waits : At → List At) → ((s i : ℕ) → i ≤ c.entered s → All (Has (c.waits (at s i))) (waits (at s i)))
+    (c : Scene) (before : ℕ → ℕ) (waits : At → List At) → ((s i : ℕ) → i ≤ c.entered s → AllByRecursion (ContainsAt (c.waits (at s i))) (waits (at s i)))
     → Waited c before → Waited (with_waits c waits) before
 
 -- at two stops of different shuttles, of the first n, in one place one waits for the stop that follows the other
 abbrev pub Settled : Scene → ℕ → (At → ℕ) → Type 0
 Settled c n place =
     (s r i j : ℕ) → s < n → r < n → (s ≢ r) → i ≤ c.last s → j ≤ c.last r → place (at s i) ≡ place (at r j)
-    → Has (c.waits (at s i)) (at r (suc j)) ⊎ Has (c.waits (at r j)) (at s (suc i))
+    → ContainsAt (c.waits (at s i)) (at r (suc j)) ⊎ ContainsAt (c.waits (at r j)) (at s (suc i))
 
 -- Then no two shuttles are in one place,
 abbrev pub NoTwoInOnePlace : Type 0
@@ -50,5 +50,5 @@ TicksNeverRaise = (c : Scene) (stands : ℕ → Bool) (n : ℕ) → left (tick c
 -- With no ring and somebody short of the last stop, an undisturbed tick makes them fall.
 abbrev pub TicksMakeFall : Type 0
 TicksMakeFall =
-    (c : Scene) (n : ℕ) → OnPaths c → NoRing c → ((a : At) → All (λ b. b.shuttle < n) (c.waits a))
+    (c : Scene) (n : ℕ) → OnPaths c → NoRing c → ((a : At) → AllByRecursion (λ b. b.shuttle < n) (c.waits a))
     → (s : ℕ) → s < n → c.entered s < c.last s → left (tick c nobody) n < left c n

@@ -1,6 +1,6 @@
 -- Traffic at a tick: how far each shuttle has come, its hold, and what each stop waits for.
 use Rattle.std.specs.Prelude.{◌≡◌, ℕ, zero, suc, ◌+◌, ◌-◌, ◌<◌, ◌≤◌, max, Bool, true, false, cond, not, ◌&&◌, List, [], ◌∷◌, map, ◌==◌, nat_le, nat_lt}
-use Rattle.std.specs.List.{AllByRecursion as All}
+use Rattle.std.specs.List.{AllByRecursion}
 use Rattle.meetings.specs.declared.stays.At.{At}
 
 -- the last stop entered, the last stop of the path, the hold, and the stops that a stop waits for
@@ -75,9 +75,9 @@ NoRing c = (e : Numbers) × EntryTicks c e
 -- a ranking rises strictly along paths, and from each unentered stop that is waited for
 pub record Ranks (c : Scene) (ρ : Numbers) : Type 0 where
   pub along : (s i : ℕ) → c.entered s ≤ i → i < c.last s → ρ s i < ρ s (suc i)
-  pub across : (s i : ℕ) → c.entered s ≤ i → i < c.last s → All (λ a. c.entered a.shuttle < a.stop → number ρ a < ρ s (suc i)) (c.waits (at s (suc i)))
+  pub across : (s i : ℕ) → c.entered s ≤ i → i < c.last s → AllByRecursion (λ a. c.entered a.shuttle < a.stop → number ρ a < ρ s (suc i)) (c.waits (at s (suc i)))
 
 -- every shuttle is on its path, and so is every stop waited for
 pub record OnPaths (c : Scene) : Type 0 where
   pub within : (s : ℕ) → c.entered s ≤ c.last s
-  pub awaited : (a : At) → All (λ b. b.stop ≤ c.last b.shuttle) (c.waits a)
+  pub awaited : (a : At) → AllByRecursion (λ b. b.stop ≤ c.last b.shuttle) (c.waits a)

@@ -1,6 +1,6 @@
 // What else is asked of a floor: a record, arrivals, and whether a meeting is open.
 ghost use Rattle.std.specs.Prelude.{◌≡◌, length, if◌then◌else◌, Some, None, MatchBool, MatchResult, nat_lt};
-ghost use Rattle.std.specs.List.{ContainsAt as Has};
+ghost use Rattle.std.specs.List.{ContainsAt};
 ghost use Rattle.meetings.specs.Laws.{StopOf, stop_of};
 ghost use Rattle.traffic.specs.Scene.{Numbers};
 ghost use Rattle.traffic.specs.Sweep.{Timed};
@@ -61,7 +61,7 @@ impl Floor {
 
     // Whether a place is a table.
     fn is_table(&self, place: u16) -> bool
-        ensures { MatchBool result (Has self.now.plan.tables.items place) (Has self.now.plan.tables.items place → ⊥) }
+        ensures { MatchBool result (ContainsAt self.now.plan.tables.items place) (ContainsAt self.now.plan.tables.items place → ⊥) }
     {
         self.plan.tables().contains(&place)
     }

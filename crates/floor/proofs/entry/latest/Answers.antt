@@ -1,6 +1,6 @@
 use Rattle.std.proofs.Common.{◌≡◌, ◌<◌, List, length, get_or, Some, vec_items, Option, sym, ap, ◌∙◌, subst, arith}
 use Rattle.std.specs.Option.{option_to_list}
-use Rattle.std.specs.List.{AllByRecursion as All}
+use Rattle.std.specs.List.{AllByRecursion}
 use Rattle.std.proofs.ByRecursion.{All-get_or, All-weaker}
 use Rattle.std.proofs.lemmas.List.{take_all, length-map}
 use Rattle.files.specs.Views.{path_of, paths_of}
@@ -22,7 +22,7 @@ later-requires c =
     let j = get_or c.args.meetings.now c.loop-j.j-index 0 in
     let all = awaited_shuttle (paths_of (vec_items plan.paths)) (vec_items plan.tables) ms plan.sound c.args.at j (All-get_or (λ n. n < length ms) c.args.meetings.now c.loop-j.j-index 0 c.loop-j-test.true c.requires.meetings) c.order_at.result in
     record {
-      shuttle = subst (All (λ a. a.shuttle < length c.args.known.now)) (sym c.awaited-other.ensures) (All-weaker _ _ (λ b h. omega (arith, h, c.requires.shuttles, length-map (vec_items plan.paths) path_of)) _ all);
+      shuttle = subst (AllByRecursion (λ a. a.shuttle < length c.args.known.now)) (sym c.awaited-other.ensures) (All-weaker _ _ (λ b h. omega (arith, h, c.requires.shuttles, length-map (vec_items plan.paths) path_of)) _ all);
       grid = c.requires.grid;
     }
 

@@ -1,5 +1,5 @@
 use Rattle.std.proofs.Common.{◌≡◌, ◌<◌, List, length, vec_items, sym, ap, ◌∙◌, subst, arith}
-use Rattle.std.specs.List.{AllByRecursion as All}
+use Rattle.std.specs.List.{AllByRecursion}
 use Rattle.std.proofs.lemmas.List.{length-map}
 use Rattle.files.specs.Views.{path_of, paths_of}
 use Rattle.meetings.specs.declared.meet.Meeting.{Meeting}
@@ -31,7 +31,7 @@ latest-requires c =
     let lt : c.args.at.shuttle < length ps = omega (arith, c.requires.shuttle, length-map (vec_items p.paths) path_of) in
     let is = index_at (plan_lists c.args.index.now) (vec_items p.meetings) ps c.requires.indexed c.args.at.shuttle lt c.args.at.stop c.requires.stop in
     record {
-      meetings = subst (All (λ j. j < length (vec_items p.meetings))) (sym (c.at.ensures ∙ is)) (kept_below (vec_items p.meetings) c.args.at);
+      meetings = subst (AllByRecursion (λ j. j < length (vec_items p.meetings))) (sym (c.at.ensures ∙ is)) (kept_below (vec_items p.meetings) c.args.at);
       shuttles = omega (arith, c.requires.count, few_shuttles ps (vec_items p.tables) (vec_items p.meetings) p.sound, length-map (vec_items p.paths) path_of);
       grid = c.requires.grid;
     }

@@ -1,5 +1,5 @@
 use Rattle.std.proofs.Common.{length, vec_items, sym, ap, ◌∙◌, subst}
-use Rattle.std.specs.List.{AllByRecursion as All}
+use Rattle.std.specs.List.{AllByRecursion}
 use Rattle.files.specs.Views.{paths_of}
 use Rattle.orders.specs.Plans.{plan_orders}
 use Rattle.orders.specs.Waits.{FitsMeeting}
@@ -10,7 +10,7 @@ use Rattle.orders.proofs.read.read_orders.Goals as goal
 pub guesses-requires : goal.guesses-requires
 guesses-requires c =
     let plan = c.args.plan.now in
-    subst (All FitsMeeting) (sym c.meetings.ensures) (meetings_fit (paths_of (vec_items plan.paths)) (vec_items plan.tables) (vec_items plan.meetings) plan.sound)
+    subst (AllByRecursion FitsMeeting) (sym c.meetings.ensures) (meetings_fit (paths_of (vec_items plan.paths)) (vec_items plan.tables) (vec_items plan.meetings) plan.sound)
 
 pub returns-then-is_file : goal.returns-then-is_file
 returns-then-is_file c =

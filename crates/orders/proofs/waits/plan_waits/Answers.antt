@@ -1,5 +1,5 @@
 use Rattle.std.proofs.Common.{[], ◌∷◌, ◌++◌, vec_items, sym, ap, ◌∙◌, subst}
-use Rattle.std.specs.List.{AllByRecursion as All}
+use Rattle.std.specs.List.{AllByRecursion}
 use Rattle.std.proofs.ByRecursion.{All-get_or}
 use Rattle.std.proofs.lemmas.List.{map_more, take_all}
 use Rattle.files.specs.Views.{paths_of}
@@ -11,7 +11,7 @@ use Rattle.orders.proofs.waits.plan_waits.Goals as goal
 pub wait_of-requires : goal.wait_of-requires
 wait_of-requires c =
     let plan = c.args.plan.now in
-    let all = subst (All FitsMeeting) (sym c.meetings-meetings.ensures) (meetings_fit (paths_of (vec_items plan.paths)) (vec_items plan.tables) (vec_items plan.meetings) plan.sound) in
+    let all = subst (AllByRecursion FitsMeeting) (sym c.meetings-meetings.ensures) (meetings_fit (paths_of (vec_items plan.paths)) (vec_items plan.tables) (vec_items plan.meetings) plan.sound) in
     All-get_or FitsMeeting c.meetings-meetings.result.now c.loop-k.k no_meeting c.loop-k-test.true all
 
 pub loop-k-preserved : goal.loop-k-preserved

@@ -1,5 +1,5 @@
 use Rattle.std.proofs.Common.{◌≡◌, ℕ, List, length, vec_items, sym, ap, subst, arith}
-use Rattle.std.specs.List.{AllByRecursion as All}
+use Rattle.std.specs.List.{AllByRecursion}
 use Rattle.std.proofs.lemmas.List.{length-map}
 use Rattle.files.specs.Views.{path_of, paths_of}
 use Rattle.orders.specs.File.{order_bytes, Written}
@@ -16,7 +16,7 @@ put_orders-requires c =
     record {
       few = omega (arith, few_shuttles ps (vec_items plan.tables) ms plan.sound, length-map (vec_items plan.paths) path_of, ap length c.paths-shuttles.ensures);
       met = omega (arith, few_meetings ps (vec_items plan.tables) ms plan.sound, ap length c.meetings.ensures);
-      fits = subst (All FitsMeeting) (sym c.meetings.ensures) (meetings_fit ps (vec_items plan.tables) ms plan.sound);
+      fits = subst (AllByRecursion FitsMeeting) (sym c.meetings.ensures) (meetings_fit ps (vec_items plan.tables) ms plan.sound);
     }
 
 pub returns : goal.returns

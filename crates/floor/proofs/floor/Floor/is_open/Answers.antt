@@ -1,5 +1,5 @@
 use Rattle.std.proofs.Common.{◌≡◌, ◌<◌, List, length, vec_items, MatchBool, sym, ap, ◌∙◌, subst, arith}
-use Rattle.std.specs.List.{ContainsAt as Has}
+use Rattle.std.specs.List.{ContainsAt}
 use Rattle.meetings.specs.declared.meet.Meeting.{Meeting}
 use Rattle.meetings.specs.Laws.{StopOf, stop_of}
 use Rattle.traffic.specs.Index.{meeting_at}
@@ -44,4 +44,4 @@ returns-then-both_ahead c =
     let place : c.place.result ≡ (stop_of (paths_in f) (meeting_at ms j).lower).place = c.place.ensures ∙ ap (λ (l : List Meeting). (stop_of (paths_in f) (meeting_at l j).lower).place) is in
     open_when (paths_in f) ts (records_in f) ms j (there (goal.at.returns-then-both_ahead c).Else-meeting-meetings) table
     (subst (λ (l : List Meeting). IsAhead f (meeting_at l j).lower × IsAhead f (meeting_at l j).other) is c.if-both_ahead.ensures)
-    (subst (λ n. MatchBool table (Has ts n) (Has ts n → ⊥)) place c.is_table.ensures)
+    (subst (λ n. MatchBool table (ContainsAt ts n) (ContainsAt ts n → ⊥)) place c.is_table.ensures)
