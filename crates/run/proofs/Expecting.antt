@@ -1,10 +1,9 @@
 -- Arrivals under the orders in force, and the execution.
-use Rattle.std.proofs.Common.{◌≡◌, ℕ, zero, suc, ◌<◌, ◌≤◌, List, length, get_or, sym, refl, ap, ◌∙◌, subst, arith}
+use Rattle.std.proofs.Common.{◌≡◌, ℕ, zero, suc, ◌≤◌, List, length, get_or, arith}
 use mathlib.Core.HLevel.{⊥_prop}
 use mathlib.Core.Logic.{∥∥₁_elim}
 use native.Mathlib.Bridge.{le_prop}
-use Rattle.traffic.specs.Scene.{Scene, Numbers, tick, nobody, ticks, NoRing, OnPaths}
-use Rattle.traffic.specs.Sweep.{Timed}
+use Rattle.traffic.specs.Scene.{Scene, tick, nobody, ticks, NoRing, OnPaths}
 use Rattle.traffic.proofs.Ranking.{ticks_make_no_ring}
 use Rattle.traffic.proofs.Step.{ticks_are_entry_ticks}
 use Rattle.traffic.proofs.Sweep.{timed_same}

@@ -1,5 +1,5 @@
 -- Every tick keeps shuttles apart, and makes progress.
-use Rattle.std.proofs.Common.{◌≡◌, ℕ, zero, suc, ◌+◌, ◌-◌, ◌/◌, ◌%◌, ◌^◌, ◌<◌, ◌≤◌, Bool, true, false, cond, List, [], ◌∷◌, length, get_or, Some, None, vec_items, Option, sym, refl, ap, ◌∙◌, subst, arith}
+use Rattle.std.proofs.Common.{◌≡◌, ℕ, suc, ◌^◌, ◌<◌, ◌≤◌, false, List, [], ◌∷◌, length, get_or, Some, None, Option, sym, ap, ◌∙◌, subst, arith}
 use mathlib.Core.Logic.{∥∥₁_elim}
 use mathlib.Core.HLevel.{⊥_prop}
 use native.Mathlib.Bridge.{le_prop}
@@ -21,7 +21,7 @@ use Rattle.orders.proofs.Genuine.{Ordered}
 use Rattle.orders.proofs.Zipped.{no_meeting}
 use Rattle.traffic.specs.Plans.{named, awaited_at, awaits}
 use Rattle.traffic.specs.Safety.{Waited, Settled, left}
-use Rattle.traffic.specs.Scene.{Scene, at, tick, nobody, NoRing, OnPaths}
+use Rattle.traffic.specs.Scene.{Scene, tick, nobody, OnPaths}
 use Rattle.traffic.proofs.Planned.{full_orders_settle}
 use Rattle.traffic.proofs.Progress.{ticks_never_raise, ticks_make_fall}
 use Rattle.traffic.proofs.Ranking.{ticks_make_no_ring}
@@ -39,7 +39,7 @@ use Rattle.floor.proofs.Sound.{one_awaited}
 use Rattle.floor.proofs.Words.{bit_past}
 use Rattle.run.specs.Calls.{tick_refusal, ticked}
 use Rattle.run.specs.Refusals.{from_floor}
-use Rattle.run.specs.Safety.{Apart, Behind, Safe, Progress, left_on}
+use Rattle.run.specs.Safety.{Apart, Safe, Progress, left_on}
 use Rattle.run.specs.State.{State, paths_on}
 
 module _ (ps : List (List Stop)) (fs : List First) (some : (s : ℕ) → s < length ps → 1 ≤ length (path_at ps s)) where

@@ -1,12 +1,12 @@
 -- Lawful orders wait for stops that exist.
-use Rattle.std.proofs.Common.{◌≡◌, ℕ, zero, suc, ◌-◌, ◌<◌, ◌≤◌, Bool, true, false, cond, eqb, List, [], ◌∷◌, ◌++◌, map, length, get_or, Some, None, vec_items, Option, sym, refl, ap, ◌∙◌, subst, arith}
+use Rattle.std.proofs.Common.{◌≡◌, ℕ, zero, suc, ◌-◌, ◌<◌, ◌≤◌, true, List, [], ◌∷◌, length, Some, None, vec_items, Option, sym, refl, ap, ◌∙◌, subst, arith}
 use mathlib.Core.HLevel.{⊥_prop}
 use mathlib.Core.Logic.{∥∥₁_elim}
 use native.Mathlib.Bridge.{le_prop}
 use native.Mathlib.Decide.{dec_le}
 use Rattle.std.specs.List.{AllByRecursion}
 use Rattle.std.proofs.ByRecursion.{All-append}
-use Rattle.std.proofs.lemmas.List.{get_or-map, length-map}
+use Rattle.std.proofs.lemmas.List.{get_or-map}
 use Rattle.std.proofs.lemmas.Bool.{eq-eqb, and_from, cond-true}
 use Rattle.files.specs.declared.plan.Stop.{Stop}
 use Rattle.files.specs.Rules.{path_at}
@@ -19,17 +19,13 @@ use Rattle.orders.specs.Waits.{wait_under}
 use Rattle.plans.specs.Kept.{Kept}
 use Rattle.traffic.specs.Index.{meeting_at, order_at}
 use Rattle.traffic.specs.Plans.{is_same_stop, awaited_at, awaits, named}
-use Rattle.traffic.specs.Scene.{Scene, OnPaths, NoRing}
-use Rattle.traffic.specs.Sweep.{Timed}
+use Rattle.traffic.specs.Scene.{OnPaths}
 use Rattle.traffic.proofs.Sweep.{timed_same}
-use Rattle.floor.specs.declared.table.Shuttle.{Shuttle}
-use Rattle.floor.specs.Open.{OpenAt}
-use Rattle.floor.specs.Scenes.{scene}
 use Rattle.floor.specs.Standing.{InForce}
 use Rattle.floor.proofs.Sound.{listed_of, one_awaited}
 use Rattle.floor.proofs.Sweeping.{all_split}
 use Rattle.run.specs.Asks.{first_at, scene_under, Ringed, Agrees, LawfulFor}
-use Rattle.run.specs.State.{State, paths_on, scene_now}
+use Rattle.run.specs.State.{State, paths_on}
 
 -- what holds of all that a stop waits for, meeting by meeting
 module _ (P : At → Type 0) (a : At) where

@@ -1,5 +1,5 @@
 -- Calls on a run, from the calls on its floor.
-use Rattle.std.proofs.Common.{◌≡◌, ℕ, List, Some, None, Ok, Err, Option, Result, sym, refl, ap, ◌∙◌}
+use Rattle.std.proofs.Common.{◌≡◌, ℕ, List, Some, None, Ok, Err, Option, Result, refl, ap, ◌∙◌}
 use Rattle.std.specs.Option.{option_map}
 use Rattle.meetings.specs.declared.meet.First.{First}
 use Rattle.plans.specs.declared.plan.Plan.{Plan}

@@ -1,7 +1,6 @@
 -- The calls on a run: when they are refused, what they answer, and what they do to its state.
 use Rattle.std.specs.Prelude.{◌≡◌, ℕ, List, length, Some, None, Ok, Err, vec_items, Option, Result}
 use Rattle.std.specs.Option.{option_map}
-use Rattle.files.specs.declared.plan.Stop.{Stop}
 use Rattle.files.specs.Views.{paths_of}
 use Rattle.orders.specs.Waits.{firsts_of}
 use Rattle.plans.specs.declared.plan.Plan.{Plan}

@@ -1,4 +1,4 @@
-use Rattle.std.proofs.Common.{◌≡◌, ◌-◌, ◌≤◌, List, length, take, Option, sym, ap, ◌∙◌, subst, arith, MatchResult}
+use Rattle.std.proofs.Common.{◌≡◌, ◌-◌, ◌≤◌, List, length, take, Option, ap, ◌∙◌, subst, arith, MatchResult}
 use Rattle.meetings.specs.declared.meet.First.{First}
 use Rattle.traffic.specs.Scene.{Numbers}
 use Rattle.traffic.specs.Sweep.{Timed}
@@ -6,9 +6,9 @@ use Rattle.floor.specs.Floors.{scene_in}
 use Rattle.floor.specs.Sweeps.{Worked}
 use Rattle.run.proofs.named.entry_under.Goals as goal
 
-pub slice-bounds-entry-ticks-end : goal.slice-bounds-entry-ticks-end
-slice-bounds-entry-ticks-end c =
-    let fits : length c.args.firsts.now ≤ length c.name-all.new.orders = omega (arith, c.requires, c.name-all.auto.orders) in
+pub slice_bounds-entry_ticks-end : goal.slice_bounds-entry_ticks-end
+slice_bounds-entry_ticks-end c =
+    let fits : length c.args.firsts.now ≤ length c.name_all.new.orders = omega (arith, c.requires, c.name_all.auto.orders) in
     fits
 
 pub returns : goal.returns
@@ -16,5 +16,5 @@ returns c =
     let f = c.args.floor.now in
     let fs = c.args.firsts.now in
     let whole : length fs - 0 ≡ length fs = omega arith in
-    subst (λ (os : List (Option First)). MatchResult c.entry-ticks.result (Worked (scene_in f os)) (λ _. (e : Numbers) → Timed (scene_in f os) e → ⊥))
-    (ap (λ n. take n c.name-all.new.orders) whole ∙ c.name-all.ensures) c.entry-ticks.ensures
+    subst (λ (os : List (Option First)). MatchResult c.entry_ticks.result (Worked (scene_in f os)) (λ _. (e : Numbers) → Timed (scene_in f os) e → ⊥))
+    (ap (λ n. take n c.name_all.new.orders) whole ∙ c.name_all.ensures) c.entry_ticks.ensures

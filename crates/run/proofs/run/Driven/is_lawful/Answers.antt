@@ -1,4 +1,4 @@
-use Rattle.std.proofs.Common.{◌≡◌, ◌≤◌, length, vec_items, sym, ap, ◌∙◌, arith}
+use Rattle.std.proofs.Common.{vec_items, sym, ◌∙◌, arith}
 use Rattle.floor.specs.Floors.{paths_in, records_in}
 use Rattle.run.specs.Views.{driven_state}
 use Rattle.run.proofs.Lawfuls.{firsts_count, ring_unlawful}
@@ -10,8 +10,8 @@ returns-then-orders-len c = λ l.
     let d = c.args.self.now in
     c.if-orders-len.true (l.count ∙ sym (firsts_count (driven_state d) d.floor.plan.sound d.in_force) ∙ sym (c.len.ensures ∙ d.firsts.ok.0))
 
-pub entry-under-requires : goal.entry-under-requires
-entry-under-requires c =
+pub entry_under-requires : goal.entry_under-requires
+entry_under-requires c =
     let d = c.args.self.now in
     let p = d.floor.plan in
     let few = few_firsts (paths_in d.floor) (vec_items p.tables) (vec_items p.meetings) (vec_items d.firsts) (records_in d.floor) p.sound d.in_force in

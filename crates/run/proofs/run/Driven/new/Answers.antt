@@ -1,37 +1,36 @@
 use Rattle.std.proofs.Common.{◌≡◌, List, length, Some, vec_items, sym, ap, ◌∙◌, subst}
 use Rattle.files.specs.Views.{paths_of}
 use Rattle.meetings.specs.declared.meet.First.{First}
-use Rattle.orders.specs.Waits.{firsts_of}
 use Rattle.plans.specs.declared.plan.Plan.{Plan}
 use Rattle.floor.specs.declared.table.Shuttle.{Shuttle}
-use Rattle.floor.specs.Floors.{paths_in, records_in}
+use Rattle.floor.specs.Floors.{records_in}
 use Rattle.floor.specs.Shuttles.{all_fresh}
 use Rattle.floor.specs.Standing.{InForce}
 use Rattle.run.proofs.Standing.{fresh_in_force}
 use Rattle.run.proofs.run.Driven.new.Goals as goal
 
-pub invariant-of-result : goal.invariant-of-result
-invariant-of-result c =
-    let p = c.in-ok-plan.plan in
-    let f = c.in-ok-floor.floor in
-    let e = c.in-ok-floor.ensures in
+pub invariant_of-result : goal.invariant_of-result
+invariant_of-result c =
+    let p = c.in_ok-plan.plan in
+    let f = c.in_ok-floor.floor in
+    let e = c.in_ok-floor.ensures in
     let ps = paths_of (vec_items p.paths) in
-    let records : records_in f ≡ all_fresh (length ps) = e.fresh ∙ ap (λ (q : Plan). all_fresh (length (paths_of (vec_items q.paths)))) e.of in (
-      ∣ subst (λ (q : Plan). InForce (paths_of (vec_items q.paths)) (vec_items c.in-ok-firsts.firsts) (records_in f)) (sym e.of)
-          (subst (λ (xs : List Shuttle). InForce ps (vec_items c.in-ok-firsts.firsts) xs) (sym records)
-          (subst (λ (fs : List First). InForce ps fs (all_fresh (length ps))) (sym c.in-ok-firsts.ensures)
-          (fresh_in_force ps (vec_items p.tables) (vec_items p.meetings) c.in-ok-plan.ensures.value.1))) ∣₁,
-      tt,
-    )
+    let records : records_in f ≡ all_fresh (length ps) = e.fresh ∙ ap (λ (q : Plan). all_fresh (length (paths_of (vec_items q.paths)))) e.of in
+    record {
+      in_force = ∣ subst (λ (q : Plan). InForce (paths_of (vec_items q.paths)) (vec_items c.in_ok-firsts.firsts) (records_in f)) (sym e.of)
+          (subst (λ (xs : List Shuttle). InForce ps (vec_items c.in_ok-firsts.firsts) xs) (sym records)
+          (subst (λ (fs : List First). InForce ps fs (all_fresh (length ps))) (sym c.in_ok-firsts.ensures)
+          (fresh_in_force ps (vec_items p.tables) (vec_items p.meetings) c.in_ok-plan.ensures.value.1))) ∣₁;
+    }
 
 pub returns : goal.returns
 returns c =
-    let p = c.in-ok-plan.plan in
-    let f = c.in-ok-floor.floor in
-    let e = c.in-ok-floor.ensures in
+    let p = c.in_ok-plan.plan in
+    let f = c.in_ok-floor.floor in
+    let e = c.in_ok-floor.ensures in
     let records : records_in f ≡ all_fresh (length (paths_of (vec_items p.paths))) = e.fresh ∙ ap (λ (q : Plan). all_fresh (length (paths_of (vec_items q.paths)))) e.of in (
       p,
-      c.in-ok-plan.ensures.value,
-      c.in-ok-plan.ensures.exact,
-      λ i. Some (record { number = c.args.number; plan = e.of i; shuttles = records i; firsts = c.in-ok-firsts.ensures i }),
+      c.in_ok-plan.ensures.value,
+      c.in_ok-plan.ensures.exact,
+      λ i. Some (record { number = c.args.number; plan = e.of i; shuttles = records i; firsts = c.in_ok-firsts.ensures i }),
     )

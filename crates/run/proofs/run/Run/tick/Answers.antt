@@ -1,4 +1,4 @@
-use Rattle.std.proofs.Common.{◌≡◌, Some, vec_items, Option, sym, subst}
+use Rattle.std.proofs.Common.{Some, vec_items, Option, sym, subst}
 use Rattle.std.specs.Option.{option_map}
 use Rattle.floor.specs.Floors.{paths_in, records_in}
 use Rattle.floor.proofs.Placing.{placed_count}
