@@ -1,5 +1,5 @@
 -- Replies from answers.
-use Rattle.std.proofs.Common.{◌≡◌, ℕ, Some, None, Ok, Err, Option, Result, sym, refl, ap, ◌∙◌, arith}
+use Rattle.std.proofs.Common.{◌≡◌, ℕ, Some, None, Ok, Err, Option, Result, ap, arith}
 use Rattle.floor.specs.Calls.{judged}
 use Rattle.lines.specs.declared.replies.Reply.{Reply}
 use Rattle.run.specs.declared.refusals.Refusal.{Refusal}

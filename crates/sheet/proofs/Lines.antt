@@ -1,8 +1,8 @@
 -- A line of the sheet, part by part.
-use Rattle.std.proofs.Common.{◌≡◌, ℕ, ◌+◌, ◌<◌, ◌≤◌, List, [], ◌∷◌, ◌++◌, length, sym, refl, ap, ◌∙◌, arith}
+use Rattle.std.proofs.Common.{◌≡◌, ℕ, ◌+◌, ◌≤◌, List, [], ◌∷◌, ◌++◌, length, ap, ◌∙◌, arith}
 use Rattle.std.proofs.lemmas.List.{length-append, length_push}
 use Rattle.orders.specs.File.{over}
-use Rattle.orders.proofs.Buffers.{length_over, over_more}
+use Rattle.orders.proofs.Buffers.{over_more}
 use Rattle.sheet.specs.declared.due.Due.{Due}
 use Rattle.sheet.specs.Digits.{digits}
 use Rattle.sheet.specs.Sheets.{due_bytes}

@@ -1,5 +1,5 @@
 -- The sheet of a run, written into a buffer.
-use Rattle.std.specs.Prelude.{◌≡◌, ℕ, List, length, Some, None, Ok, Err, Option, Result}
+use Rattle.std.specs.Prelude.{◌≡◌, ℕ, List, Some, None, Ok, Err, Option, Result}
 use Rattle.run.specs.declared.refusals.Refusal.{Refusal}
 use Rattle.run.specs.declared.refusals.Refusal.TheVariants.{NoPlan}
 use Rattle.run.specs.Asks.{Expected}

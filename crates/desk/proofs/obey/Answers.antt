@@ -1,7 +1,7 @@
-use Rattle.std.proofs.Common.{◌≡◌, sym, ap, ◌∙◌}
+use Rattle.std.proofs.Common.{sym, ap, ◌∙◌}
 use Rattle.lines.specs.declared.commands.Command.{Command}
-use Rattle.lines.specs.declared.replies.Reply.TheVariants.{Held, Ticked}
-use Rattle.run.specs.Calls.{on_plan, hold_refusal, tick_refusal, moved_by}
+use Rattle.lines.specs.declared.replies.Reply.TheVariants.{Held}
+use Rattle.run.specs.Calls.{on_plan, hold_refusal}
 use Rattle.run.specs.Views.{state_of}
 use Rattle.desk.specs.Replies.{reply_to, state_after}
 use Rattle.desk.proofs.Replying.{reply_refused, reply-done}
