@@ -24,11 +24,11 @@ module _ {X : Type 0} (f : ℕ → List X) where
 
   -- entry i of list s
   pub upto-at : (n s i : ℕ) (d : X) → s < n → i < length (f s) → get_or (upto n) (length (upto s) + i) d ≡ get_or (f s) i d
-  upto-at zero s i d lt in_List = absurd (omega arith)
-  upto-at (suc n) s i d lt in_List =
+  upto-at zero s i d lt in_list = absurd (omega arith)
+  upto-at (suc n) s i d lt in_list =
       ap (λ l. get_or l (length (upto s) + i) d) (upto-suc n)
       ∙ ⊎_elim
-      (λ (less : s < n). get_or_append_left (upto n) (f n) d (length (upto s) + i) (omega (arith, upto_rises s n less)) ∙ upto-at n s i d less in_List)
+      (λ (less : s < n). get_or_append_left (upto n) (f n) d (length (upto s) + i) (omega (arith, upto_rises s n less)) ∙ upto-at n s i d less in_list)
       (λ (ge : n ≤ s). let e : s ≡ n = omega arith in let m : length (upto s) ≡ length (upto n) = ap (λ k. length (upto k)) e in let back : length (upto s) + i - length (upto n) ≡ i = omega arith in get_or-append_right (upto n) (f n) (length (upto n)) (length (upto s) + i) d refl (omega arith) ∙ ap (λ k. get_or (f n) k d) back ∙ ap (λ k. get_or (f k) i d) (sym e))
       (cases_lt s n)
 

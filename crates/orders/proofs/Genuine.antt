@@ -51,23 +51,23 @@ module _ (n : ℕ) (ws : List Wait) (bs : List ℕ) (is : bs ≡ order_bytes n w
   count_is s lt = word_from bs (4 + 4 * s) (length (body_of s ws)) (contents_byte s 2 _ lt (omega arith) (omega arith)) (contents_byte s 3 _ lt (omega arith) (omega arith))
 
   body_byte : (s e i k : ℕ) → s < n → e < length (body_of s ws) → i < 6 → k ≡ body_at n ws s + 6 * e + i → get_or bs k 0 ≡ get_or (wait_bytes (nth_wait (body_of s ws) e)) i 0
-  body_byte s e i k lt in_Body small at =
+  body_byte s e i k lt in_body small at =
       let long = length-bodies ws s in
       let j : k - (2 + 4 * n) ≡ length (upto (body_bytes ws) s) + (6 * e + i) = omega arith in
       ap (λ l. get_or l k 0) is
       ∙ get_or-append_right (word_bytes n ++ upto (entry_bytes n ws) n) (upto (body_bytes ws) n) (2 + 4 * n) k 0 length_front (omega arith)
       ∙ ap (λ m. get_or (upto (body_bytes ws) n) m 0) j
       ∙ upto-at (body_bytes ws) n s (6 * e + i) 0 lt (omega (arith, length-wait_bytes (body_of s ws)))
-      ∙ six_at (body_of s ws) e i in_Body small
+      ∙ six_at (body_of s ws) e i in_body small
 
   -- the entry of a wait has its three numbers
   pub entry_there : (s e : ℕ) → s < n → e < length (body_of s ws) → EntryIs bs (body_at n ws s + 6 * e) (nth_wait (body_of s ws) e)
-  entry_there s e lt in_Body =
+  entry_there s e lt in_body =
       let x = nth_wait (body_of s ws) e in
       let at = body_at n ws s + 6 * e in (
-        word_from bs at x.second.stop (body_byte s e 0 _ lt in_Body (omega arith) (omega arith)) (body_byte s e 1 _ lt in_Body (omega arith) refl),
-        word_from bs (at + 2) x.awaited.shuttle (body_byte s e 2 _ lt in_Body (omega arith) refl) (body_byte s e 3 _ lt in_Body (omega arith) (omega arith)),
-        word_from bs (at + 4) x.awaited.stop (body_byte s e 4 _ lt in_Body (omega arith) refl) (body_byte s e 5 _ lt in_Body (omega arith) (omega arith)),
+        word_from bs at x.second.stop (body_byte s e 0 _ lt in_body (omega arith) (omega arith)) (body_byte s e 1 _ lt in_body (omega arith) refl),
+        word_from bs (at + 2) x.awaited.shuttle (body_byte s e 2 _ lt in_body (omega arith) refl) (body_byte s e 3 _ lt in_body (omega arith) (omega arith)),
+        word_from bs (at + 4) x.awaited.stop (body_byte s e 4 _ lt in_body (omega arith) refl) (body_byte s e 5 _ lt in_body (omega arith) (omega arith)),
       )
 
 -- what passes stays
