@@ -1,6 +1,7 @@
 // Heaps over lent memory, for records with a total order: the least is taken first.
 #![tactic(auto)]
 
+ghost use Rattle.std.specs.Prelude.{IsTrue};
 ghost use Rattle.heap.specs.Laws.{OrdersAreReflexive, SortsAscend, SortsKeepElements, RowsAreUnique, InsertsAscend, InsertsAddOne, InsertsAtPlace, PlacesDivide, FirstsAreLeast};
 
 pub mod heap;
@@ -16,13 +17,15 @@ pub fn rows_stand<T>() -> bool
     ensures one { InsertsAddOne T }
     ensures place { InsertsAtPlace T }
     ensures divides { PlacesDivide T }
+    ensures answer { IsTrue result }
 {
     true
 }
 
 // The first of a heap is no later than any other.
 pub fn heaps_stand<T>() -> bool
-    ensures { FirstsAreLeast T }
+    ensures least { FirstsAreLeast T }
+    ensures answer { IsTrue result }
 {
     true
 }

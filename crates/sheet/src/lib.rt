@@ -1,6 +1,7 @@
 // The sheet of arrivals: tick and shuttle of each, by tick, then by shuttle.
 #![tactic(auto)]
 
+ghost use Rattle.std.specs.Prelude.{IsTrue};
 ghost use Rattle.sheet.specs.Laws.{DigitsReadBack, NoZeroLeads};
 
 pub mod cells;
@@ -13,6 +14,7 @@ pub mod sheet;
 pub fn digits_stand() -> bool
     ensures back { DigitsReadBack }
     ensures lead { NoZeroLeads }
+    ensures answer { IsTrue result }
 {
     true
 }

@@ -1,6 +1,7 @@
 // The laws of traffic, each on the contract of a function.
 #![tactic(auto)]
 
+ghost use Rattle.std.specs.Prelude.{IsTrue};
 ghost use Rattle.traffic.specs.Laws.{EntryTicksAgree, RankedExactly, HoldsMakeNoRing, TicksMakeNoRing, FewerMakeNoRing, TicksAreEntryTicks, MoreIsLater, SatisfiedIsSame};
 ghost use Rattle.traffic.specs.Plans.{FreshRunsHaveNoRing, FullOrdersSettle};
 ghost use Rattle.traffic.specs.Safety.{TicksKeepWaits, ChangesKeepWaits, NoTwoInOnePlace, NoneFollows, TicksNeverRaise, TicksMakeFall};
@@ -15,6 +16,7 @@ pub fn entry_ticks_stand() -> bool
     ensures execution { TicksAreEntryTicks }
     ensures later { MoreIsLater }
     ensures same { SatisfiedIsSame }
+    ensures answer { IsTrue result }
 {
     true
 }
@@ -27,6 +29,7 @@ pub fn steps_stand() -> bool
     ensures behind { NoneFollows }
     ensures never { TicksNeverRaise }
     ensures fall { TicksMakeFall }
+    ensures answer { IsTrue result }
 {
     true
 }
@@ -35,6 +38,7 @@ pub fn steps_stand() -> bool
 pub fn plans_stand() -> bool
     ensures fresh { FreshRunsHaveNoRing }
     ensures settled { FullOrdersSettle }
+    ensures answer { IsTrue result }
 {
     true
 }

@@ -1,5 +1,6 @@
+use Rattle.std.proofs.Common.{refl}
 use Rattle.heap.proofs.Firsts.{first_least}
 use Rattle.heap.proofs.heaps_stand.Goals as goal
 
 pub returns : goal.returns
-returns g c = first_least
+returns g c = record { least = first_least; answer = refl }

@@ -1,3 +1,4 @@
+use Rattle.std.proofs.Common.{refl}
 use Rattle.heap.proofs.Rows.{itself, sort_ascends, sort_keeps, row_unique, insert_ascends, insert_adds, insert-at-place, place_divides}
 use Rattle.heap.proofs.rows_stand.Goals as goal
 
@@ -11,4 +12,5 @@ returns g c = record {
   one = insert_adds;
   place = insert-at-place;
   divides = place_divides;
+  answer = refl;
 }

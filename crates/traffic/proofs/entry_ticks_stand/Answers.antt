@@ -1,3 +1,4 @@
+use Rattle.std.proofs.Common.{refl}
 use Rattle.traffic.proofs.Agree.{entry_ticks_agree}
 use Rattle.traffic.proofs.Later.{more_is_later, satisfied_is_same}
 use Rattle.traffic.proofs.Ranking.{ranked_exactly, holds_make_no_ring, ticks_make_no_ring, fewer_make_no_ring}
@@ -14,4 +15,5 @@ returns c = record {
   execution = ticks_are_entry_ticks;
   later = more_is_later;
   same = satisfied_is_same;
+  answer = refl;
 }
