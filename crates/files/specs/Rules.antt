@@ -1,5 +1,5 @@
 -- The rules that paths keep: a first tick is 0, ticks rise strictly, and neighbouring stops differ in place.
-use Rattle.std.specs.Prelude.{◌≡◌, ℕ, ◌-◌, ◌<◌, ◌≤◌, List, [], length, ◌≢◌, slice_index_or}
+use Rattle.std.specs.Prelude.{◌≡◌, ℕ, ◌-◌, ◌<◌, ◌≤◌, cond, ◌==◌, nat_le, Option, None, Some, List, [], length, ◌≢◌, slice_index_or}
 use Rattle.files.specs.declared.plan.Stop.{Stop}
 use Rattle.files.specs.declared.rules.PathFault.{PathFault}
 use Rattle.files.specs.declared.rules.PathFault.TheVariants.{Start, Tick, Place}
@@ -21,6 +21,11 @@ PathKeeps path = (i : ℕ) → i < length path → Keeps path i
 
 abbrev pub PathsKeep : List (List Stop) → Type 0
 PathsKeep paths = (s : ℕ) → s < length paths → PathKeeps (path_at paths s)
+
+-- the rule that a stop breaks behind the stop before it, if it breaks one
+abbrev pub fault_of : ℕ → ℕ → Option Stop → Stop → Option PathFault
+fault_of s i None here = cond (here.tick == 0) None (Some (Start s))
+fault_of s i (Some last) here = cond (nat_le here.tick last.tick) (Some (Tick s i)) (cond (here.place == last.place) (Some (Place s i)) None)
 
 -- the shuttle and the stop of an offence
 abbrev pub offender : PathFault → ℕ

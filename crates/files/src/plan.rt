@@ -1,7 +1,7 @@
 // A plan as it is read from its file.
 
 // A place, and the tick at which it is entered.
-#[derive(Clone, Copy)]
+#[derive(Clone, Copy, PartialEq, Eq, Debug)]
 pub struct Stop {
     pub place: u16,
     pub tick: u16,

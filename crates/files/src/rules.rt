@@ -1,34 +1,43 @@
 // The rules that paths keep.
-ghost use Rattle.std.specs.Result.{MatchResult};
-ghost use Rattle.files.specs.Rules.{PathKeeps, PathBreaks, PathsKeep, FirstOffence};
+ghost use Rattle.std.specs.Prelude.{◌≡◌, None, Some, MatchResult};
+ghost use Rattle.files.specs.Rules.{fault_of, PathKeeps, PathBreaks, PathsKeep, FirstOffence};
 ghost use Rattle.files.specs.Views.{paths_of};
 
 use crate::plan::{Path, Stop};
 
 // The first stop that breaks a rule: a first tick that is not 0, a tick that does not rise, or a place that is the one before.
-#[derive(Clone, Copy)]
+#[derive(Clone, Copy, PartialEq, Eq, Debug)]
 pub enum PathFault {
     Start { shuttle: usize },
     Tick { shuttle: usize, stop: usize },
     Place { shuttle: usize, stop: usize },
 }
 
+// Whether a stop keeps the rules behind the stop before it, if there is one.
+fn check_stop(
+    shuttle: usize,
+    stop: usize,
+    before: Option<Stop>,
+    here: Stop,
+) -> Result<(), PathFault>
+    ensures { MatchResult result (λ _. fault_of shuttle stop before here ≡ None) (λ f. fault_of shuttle stop before here ≡ Some f) }
+{
+    match before {
+        None if here.tick != 0 => Err(PathFault::Start { shuttle }),
+        Some(last) if here.tick <= last.tick => Err(PathFault::Tick { shuttle, stop }),
+        Some(last) if here.place == last.place => Err(PathFault::Place { shuttle, stop }),
+        _ => Ok(()),
+    }
+}
+
 // Whether the path of a shuttle keeps the rules.
 fn check_path(shuttle: usize, stops: &[Stop]) -> Result<(), PathFault>
     ensures { MatchResult result (λ _. PathKeeps stops.now) (λ f. PathBreaks shuttle stops.now f) }
 {
-    if stops.len() > 0 && stops[0].tick != 0 {
-        return Err(PathFault::Start { shuttle });
-    }
-    for stop in 1..stops.len() {
-        let before = stops[stop - 1];
-        let here = stops[stop];
-        if here.tick <= before.tick {
-            return Err(PathFault::Tick { shuttle, stop });
-        }
-        if here.place == before.place {
-            return Err(PathFault::Place { shuttle, stop });
-        }
+    let mut before = None;
+    for (stop, here) in stops.iter().enumerate() {
+        check_stop(shuttle, stop, before, *here)?;
+        before = Some(*here);
     }
     Ok(())
 }

@@ -6,7 +6,7 @@ use crate::meet::{left_before, meet};
 use crate::stays::{At, Stay};
 
 // The two stops of a clash, that of the lower shuttle first.
-#[derive(Clone, Copy)]
+#[derive(Clone, Copy, PartialEq, Eq, Debug)]
 pub struct Clash {
     pub lower: At,
     pub other: At,
@@ -22,17 +22,15 @@ fn clashing(a: &Stay, b: &Stay) -> bool
 pub(crate) fn first_clash(stays: &[Stay]) -> Result<(), Clash>
     ensures { MatchResult result (λ _. NoClash stays.now) (λ c. FirstClash stays.now c) }
 {
-    let mut found = Ok(());
-    'pairs: for a in 0..stays.len() {
-        for b in a + 1..stays.len() {
-            if clashing(&stays[a], &stays[b]) {
-                found = Err(Clash {
-                    lower: stays[a].at,
-                    other: stays[b].at,
+    for (k, a) in stays.iter().enumerate() {
+        for b in &stays[k + 1..] {
+            if clashing(a, b) {
+                return Err(Clash {
+                    lower: a.at,
+                    other: b.at,
                 });
-                break 'pairs;
             }
         }
     }
-    found
+    Ok(())
 }

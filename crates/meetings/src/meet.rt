@@ -12,14 +12,14 @@ use std::alloc::{AllocError, AllocFailed, Global};
 const MOST_MEETINGS: usize = 256;
 
 // Who goes first at a meeting.
-#[derive(Clone, Copy)]
+#[derive(Clone, Copy, PartialEq, Eq, Debug)]
 pub enum First {
     Lower,
     Other,
 }
 
 // Two stops at one place: that of the lower shuttle, that of the other, and who goes first in the plan.
-#[derive(Clone, Copy)]
+#[derive(Clone, Copy, PartialEq, Eq, Debug)]
 pub struct Meeting {
     pub lower: At,
     pub other: At,
@@ -27,7 +27,7 @@ pub struct Meeting {
 }
 
 // Why meetings cannot be settled: over 256 of them, two paths that collide, or want of memory.
-#[derive(Clone, Copy)]
+#[derive(Clone, Copy, PartialEq, Eq, Debug)]
 pub enum MeetingFault {
     TooMany,
     Collision(Clash),
@@ -62,10 +62,7 @@ impl<T: Drop> From<AllocFailed<T>> for MeetingFault {
 pub(crate) fn left_before(a: &Stay, b: &Stay) -> bool
     ensures { result ≡ is_left_before a.now b.now }
 {
-    match a.leave {
-        Some(tick) => tick < b.enter,
-        None => false,
-    }
+    a.leave.is_some_and(|tick| tick < b.enter)
 }
 
 // Whether the stays are of different shuttles at one place.
@@ -95,13 +92,13 @@ pub(crate) fn find_meetings(heap: Global, stays: &[Stay]) -> Result<Vec<Meeting>
     ensures { Found result stays.now }
 {
     let mut found = Vec::new(heap);
-    for a in 0..stays.len() {
-        for b in a + 1..stays.len() {
-            if meet(&stays[a], &stays[b]) {
+    for (k, a) in stays.iter().enumerate() {
+        for b in &stays[k + 1..] {
+            if meet(a, b) {
                 if found.len() >= MOST_MEETINGS {
                     return Err(MeetingFault::TooMany);
                 }
-                found.push(meeting_of(&stays[a], &stays[b]))?;
+                found.push(meeting_of(a, b))?;
             }
         }
     }

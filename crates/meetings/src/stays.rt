@@ -1,20 +1,20 @@
 // The stays of a plan: each stop with the tick at which it is entered and the tick at which it is left.
 ghost use Rattle.std.specs.Prelude.{◌≡◌, ◌<◌, ◌++◌, length, IfOk, OnOk};
 ghost use Rattle.files.specs.Views.{paths_of};
-ghost use Rattle.meetings.specs.Stays.{stay_of_stop, path_stays, stays};
+ghost use Rattle.meetings.specs.Stays.{leave_at, path_stays, stays};
 
 use files::plan::{Path, Stop};
 use std::alloc::{AllocError, Global};
 
 // A stop of a shuttle, by their numbers.
-#[derive(Clone, Copy)]
+#[derive(Clone, Copy, PartialEq, Eq, Debug)]
 pub struct At {
     pub shuttle: usize,
     pub stop: usize,
 }
 
 // A shuttle's stay in a place. At its last stop it stays for ever.
-#[derive(Clone, Copy)]
+#[derive(Clone, Copy, PartialEq, Eq, Debug)]
 pub struct Stay {
     pub at: At,
     pub place: u16,
@@ -22,30 +22,25 @@ pub struct Stay {
     pub leave: Option<u16>,
 }
 
-fn stay_at(shuttle: usize, stops: &[Stop], stop: usize) -> Stay
+// The tick at which a stop is left: that of the next, if there is one.
+fn leave_tick(stops: &[Stop], stop: usize) -> Option<u16>
     requires { stop < length stops.now }
-    ensures { result ≡ stay_of_stop shuttle stops.now stop }
+    ensures { result ≡ leave_at stops.now stop }
 {
-    let here = stops[stop];
-    let leave = if stop + 1 < stops.len() {
-        Some(stops[stop + 1].tick)
-    } else {
-        None
-    };
-    Stay {
-        at: At { shuttle, stop },
-        place: here.place,
-        enter: here.tick,
-        leave,
-    }
+    stops.get(stop + 1).map(|next| next.tick)
 }
 
 // Adds the stays of one path.
 fn add_stays(shuttle: usize, stops: &[Stop], all: &mut Vec<Stay>) -> Result<(), AllocError>
     ensures { OnOk result (all.new.items ≡ all.old.items ++ path_stays shuttle stops.now) }
 {
-    for stop in 0..stops.len() {
-        all.push(stay_at(shuttle, stops, stop))?;
+    for (stop, here) in stops.iter().enumerate() {
+        all.push(Stay {
+            at: At { shuttle, stop },
+            place: here.place,
+            enter: here.tick,
+            leave: leave_tick(stops, stop),
+        })?;
     }
     Ok(())
 }

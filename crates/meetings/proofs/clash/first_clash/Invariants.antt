@@ -1,9 +1,9 @@
-use Rattle.std.proofs.Common.{◌≡◌, Ok}
+use Rattle.std.proofs.Common.{◌+◌}
 use Rattle.meetings.specs.Meetings.{RowsClear, RowClear}
 use Rattle.meetings.proofs.clash.first_clash.Given as goal
 
-abbrev pub invariant-pairs : goal.invariant-pairs
-invariant-pairs l = RowsClear l.stays l.a × (l.found ≡ Ok tt)
+abbrev pub invariant-loop-k : goal.invariant-loop-k
+invariant-loop-k l = RowsClear l.stays l.k
 
 abbrev pub invariant-loop-b : goal.invariant-loop-b
-invariant-loop-b l = RowsClear l.stays l.a × RowClear l.stays l.a l.b × (l.found ≡ Ok tt)
+invariant-loop-b l = RowClear l.stays l.k (l.k + 1 + l.b-index)

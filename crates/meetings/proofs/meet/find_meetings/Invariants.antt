@@ -1,13 +1,13 @@
 use Rattle.std.proofs.Common.{◌≡◌, ◌+◌, ◌≤◌, ◌++◌, length, drop, vec_items}
 use Rattle.std.specs.List.{flat_map}
-use Rattle.meetings.specs.Meetings.{meet_with, meetings_of, stay_in}
+use Rattle.meetings.specs.Meetings.{meet_with, meetings_of}
 use Rattle.meetings.proofs.meet.find_meetings.Given as goal
 
-abbrev pub invariant-loop-a : goal.invariant-loop-a
-invariant-loop-a l = (meetings_of l.stays ≡ vec_items l.found ++ meetings_of (drop l.a l.stays)) × (length (vec_items l.found) ≤ 256)
+abbrev pub invariant-loop-k : goal.invariant-loop-k
+invariant-loop-k l = (meetings_of l.stays ≡ vec_items l.found ++ meetings_of (drop l.k l.stays)) × (length (vec_items l.found) ≤ 256)
 
 abbrev pub invariant-loop-b : goal.invariant-loop-b
 invariant-loop-b l =
     (meetings_of l.stays
-    ≡ vec_items l.found ++ (flat_map (meet_with (stay_in l.stays l.a)) (drop l.b l.stays) ++ meetings_of (drop (l.a + 1) l.stays)))
+    ≡ vec_items l.found ++ (flat_map (meet_with l.a) (drop (l.k + 1 + l.b-index) l.stays) ++ meetings_of (drop (l.k + 1) l.stays)))
     × (length (vec_items l.found) ≤ 256)
