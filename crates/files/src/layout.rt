@@ -15,6 +15,7 @@ pub enum FileFault {
     Memory,
 }
 
+// Want of memory comes as two types of error. Both conversions are written out, since a derived one would not say what comes of it.
 impl From<AllocError> for FileFault {
     ghost from_gives = { λ _ r. r ≡ Memory };
 
@@ -45,6 +46,7 @@ struct Reader<'a> {
     at: usize,
 }
 
+// Its loops are no chains of iterators: each turn moves the reader on, and what a closure changes is not known behind it.
 impl<'a> Reader<'a> {
     // The next number, which has to lie from `low` to `high`.
     fn number(&mut self, low: u32, high: u32) -> Result<u16, FileFault>

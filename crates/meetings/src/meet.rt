@@ -42,6 +42,7 @@ impl From<Clash> for MeetingFault {
     }
 }
 
+// Want of memory comes as two types of error. Both conversions are written out, since a derived one would not say what comes of it.
 impl From<AllocError> for MeetingFault {
     ghost from_gives = { λ _ r. r ≡ Memory };
 

@@ -1,8 +1,7 @@
 -- The bytes of a shuttle's waits, wait by wait and shuttle by shuttle.
-use Rattle.std.proofs.Common.{◌≡◌, ℕ, zero, suc, ◌+◌, ◌*◌, ◌<◌, ◌≤◌, true, false, List, [], ◌∷◌, ◌++◌, length, take, drop, sum_by, sym, refl, ap, ◌∙◌, append-nil, add-one, arith}
+use Rattle.std.proofs.Common.{◌≡◌, ℕ, zero, suc, ◌+◌, ◌*◌, ◌<◌, ◌≤◌, List, [], ◌∷◌, ◌++◌, length, sum_by, sym, refl, ap, ◌∙◌, add-one, arith}
 use Rattle.std.specs.List.{range_with_len, flat_map}
-use Rattle.std.proofs.lemmas.List.Elements.{filter-append}
-use Rattle.std.proofs.lemmas.List.{flat_map_more, length-append, take-append-drop}
+use Rattle.std.proofs.lemmas.List.{length-append}
 use Rattle.std.proofs.lemmas.List.Sums.{sum_by_push, length-filter, count_by-le-length}
 use Rattle.meetings.specs.declared.meet.First.{First}
 use Rattle.meetings.specs.declared.meet.First.TheVariants.{Lower, Other}
@@ -12,8 +11,8 @@ use Rattle.meetings.proofs.Counts.{counting_more}
 use Rattle.meetings.proofs.Places.{length-upto-suc}
 use Rattle.orders.specs.declared.waits.Wait.{Wait}
 use Rattle.orders.specs.File.{wait_bytes, body_bytes, before, body_at, entry_bytes, order_bytes, FitsWait}
-use Rattle.orders.specs.Waits.{wait_under, nth_wait, is_second, body_of, FitsMeeting}
-use Rattle.orders.proofs.Zipped.{body_yes, body_no}
+use Rattle.orders.specs.Waits.{wait_under, is_second, body_of, FitsMeeting}
+use Rattle.std.proofs.lemmas.Bool.{cond-true, eq-eqb}
 
 pub wait_fits : (m : Meeting) (f : First) → FitsMeeting m → FitsWait (wait_under m f)
 wait_fits m Lower h = (omega arith, h.0.0, h.0.1)
@@ -23,23 +22,9 @@ pub length-wait_bytes : (ws : List Wait) → length (flat_map wait_bytes ws) ≡
 length-wait_bytes [] = refl
 length-wait_bytes (w ∷ ws) = let e = length-wait_bytes ws in omega arith
 
-module _ (s : ℕ) (ws : List Wait) (k : ℕ) where
-  pub body_part : length (body_of s (take k ws)) ≤ length (body_of s ws)
-  body_part =
-      let e = ap (body_of s) (sym (take-append-drop k ws)) ∙ filter-append (is_second s) (take k ws) (drop k ws) in
-      omega (arith, ap length e, length-append (body_of s (take k ws)) (body_of s (drop k ws)))
-
-  pub bytes_yes : k < length ws → is_second s (nth_wait ws k) ≡ true → body_bytes (take (k + 1) ws) s ≡ body_bytes (take k ws) s ++ wait_bytes (nth_wait ws k)
-  bytes_yes lt e = ap (flat_map wait_bytes) (body_yes s ws k lt e) ∙ sym (flat_map_more wait_bytes [] (body_of s (take k ws)) (nth_wait ws k))
-
-  pub bytes_no : k < length ws → is_second s (nth_wait ws k) ≡ false → body_bytes (take (k + 1) ws) s ≡ body_bytes (take k ws) s
-  bytes_no lt e = ap (flat_map wait_bytes) (body_no s ws k lt e ∙ append-nil (body_of s (take k ws)))
-
--- one wait more fits into the room for all
-pub room_yes :
-    (s : ℕ) (ws : List Wait) (k : ℕ) → k < length ws → is_second s (nth_wait ws k) ≡ true → length (body_bytes (take k ws) s) + 6 ≤ length (body_bytes ws s)
-room_yes s ws k lt e =
-    omega (arith, ap length (bytes_yes s ws k lt e), length-append (body_bytes (take k ws) s) (wait_bytes (nth_wait ws k)), length-wait_bytes (body_of s (take (k + 1) ws)), length-wait_bytes (body_of s ws), body_part s ws (k + 1))
+-- the bytes of a shuttle's body begin with those of its first wait
+pub body_own : (s : ℕ) (w : Wait) (ws : List Wait) → w.second.shuttle ≡ s → body_bytes (w ∷ ws) s ≡ wait_bytes w ++ body_bytes ws s
+body_own s w ws e = ap (flat_map wait_bytes) (cond-true (is_second s w) _ _ (eq-eqb _ _ e))
 
 pub before_more : (ws : List Wait) (s : ℕ) → before ws (s + 1) ≡ before ws s + length (body_of s ws)
 before_more ws s = ap (sum_by (λ r. length (body_of r ws))) (counting_more s) ∙ sum_by_push (λ r. length (body_of r ws)) (range_with_len 0 s) s

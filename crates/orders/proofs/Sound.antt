@@ -1,17 +1,20 @@
 -- What an opened plan gives the writer of its order file.
-use Rattle.std.proofs.Common.{◌≡◌, ℕ, zero, suc, ◌<◌, ◌≤◌, List, [], ◌∷◌, length, get_or, sym, ap, subst, inl, inr, arith}
+use Rattle.std.proofs.Common.{◌≡◌, ℕ, zero, suc, ◌<◌, ◌≤◌, List, [], ◌∷◌, length, get_or, vec_items, sym, ap, subst, inl, inr, arith}
 use mathlib.Core.HLevel.{Unit-prop, ×_prop, ⊥_prop}
 use mathlib.Core.Logic.{∥∥₁_elim}
 use native.Mathlib.Bridge.{le_prop}
 use Rattle.std.specs.List.{AllByRecursion}
+use Rattle.std.proofs.lemmas.List.{length-map}
 use Rattle.std.proofs.ByRecursion.{All-from_get_or, All-get_or, has_get_or}
 use Rattle.files.specs.declared.plan.Stop.{Stop}
 use Rattle.files.specs.Bytes.{PathFits}
+use Rattle.files.specs.Views.{path_of, paths_of}
 use Rattle.meetings.specs.declared.meet.Meeting.{Meeting}
 use Rattle.meetings.specs.declared.stays.At.{At}
 use Rattle.meetings.specs.Laws.{StopOf, Earlier, Precedes, Ascending}
 use Rattle.meetings.specs.Meetings.{meetings}
 use Rattle.meetings.proofs.Stands.{meetings_law}
+use Rattle.plans.specs.declared.plan.Plan.{Plan}
 use Rattle.plans.specs.Kept.{Kept}
 use Rattle.orders.specs.Waits.{FitsAt, FitsMeeting}
 use Rattle.orders.proofs.Genuine.{Ordered, Apart, meeting_at}
@@ -40,6 +43,16 @@ fits_prop (m ∷ ms) = ×_prop (×_prop (×_prop le_prop le_prop) (×_prop le_pr
 
 pub meetings_fit : (ps : List (List Stop)) (ts : List ℕ) (ms : List Meeting) → ∥ Kept ps ts ms ∥₁ → AllByRecursion FitsMeeting ms
 meetings_fit ps ts ms k = ∥∥₁_elim k (fits_prop ms) (all_fit ps ts ms)
+
+-- the same of a plan: its numbers, and those of one of its meetings
+pub plan_shuttles : (p : Plan) → length (vec_items p.paths) ≤ 32
+plan_shuttles p = omega (arith, few_shuttles (paths_of (vec_items p.paths)) (vec_items p.tables) (vec_items p.meetings) p.sound, length-map (vec_items p.paths) path_of)
+
+pub plan_meetings : (p : Plan) → length (vec_items p.meetings) ≤ 256
+plan_meetings p = few_meetings (paths_of (vec_items p.paths)) (vec_items p.tables) (vec_items p.meetings) p.sound
+
+pub plan_fits : (p : Plan) (k : ℕ) → k < length (vec_items p.meetings) → FitsMeeting (get_or (vec_items p.meetings) k no_meeting)
+plan_fits p k lt = All-get_or FitsMeeting (vec_items p.meetings) k no_meeting lt (meetings_fit (paths_of (vec_items p.paths)) (vec_items p.tables) (vec_items p.meetings) p.sound)
 
 -- the meetings are of shuttles of the plan, the lower first
 ordered_prop : (n : ℕ) (ms : List Meeting) → IsProp (AllByRecursion (Ordered n) ms)

@@ -1,12 +1,13 @@
 -- Waits by index, and what a shuttle has of them.
-use Rattle.std.proofs.Common.{◌≡◌, ℕ, zero, suc, ◌+◌, ◌<◌, ◌≤◌, min, true, false, List, [], ◌∷◌, ◌++◌, length, get_or, take, Some, None, sym, refl, ap, ◌∙◌, arith}
-use Rattle.std.proofs.lemmas.List.Elements.{filter_more}
-use Rattle.std.proofs.lemmas.Bool.{cond-true, cond-false, eq-eqb, ne_eqb}
+use Rattle.std.proofs.Common.{◌≡◌, ℕ, zero, suc, ◌+◌, ◌<◌, ◌≤◌, ◌⊎◌, inl, inr, min, Bool, true, false, eqb, cond, count_by, List, [], ◌∷◌, length, get_or, Some, None, sym, refl, ap, ◌∙◌, arith}
+use Rattle.std.specs.List.{zip}
+use Rattle.std.proofs.lemmas.List.Sums.{sum_by-cons, count_by-le-length}
+use Rattle.std.proofs.lemmas.Slice.Zip.{length-zip}
 use Rattle.meetings.specs.declared.meet.First.{First}
-use Rattle.meetings.specs.declared.meet.First.TheVariants.{Lower}
+use Rattle.meetings.specs.declared.meet.First.TheVariants.{Lower, Other}
 use Rattle.meetings.specs.declared.meet.Meeting.{Meeting}
 use Rattle.orders.specs.declared.waits.Wait.{Wait}
-use Rattle.orders.specs.Waits.{wait_under, wait_by_number, waits, nth_wait, is_second, body_of}
+use Rattle.orders.specs.Waits.{stops_in_order, wait_under, wait_by_number, waits, nth_wait, is_second, body_of}
 
 abbrev pub no_meeting : Meeting
 no_meeting = record { lower = record { shuttle = 0; stop = 0 }; other = record { shuttle = 0; stop = 0 }; first = Lower }
@@ -25,29 +26,13 @@ waits-at (m ∷ ms) [] k l r = absurd (omega arith)
 waits-at (m ∷ ms) (f ∷ fs) zero l r = refl
 waits-at (m ∷ ms) (f ∷ fs) (suc k) l r = waits-at ms fs k (omega arith) (omega arith)
 
-module _ (s : ℕ) (ws : List Wait) (k : ℕ) (lt : k < length ws) where
-  -- one wait more is the shuttle's, or is not
-  pub body_yes : is_second s (nth_wait ws k) ≡ true → body_of s (take (k + 1) ws) ≡ body_of s (take k ws) ++ nth_wait ws k ∷ []
-  body_yes e = filter_more (is_second s) ws k no_wait lt ∙ ap (λ l. body_of s (take k ws) ++ l) (cond-true _ _ _ e)
+-- where one of two lists has ended, no wait is left
+pub waits_ended : (ms : List Meeting) (fs : List First) → (length ms ≡ 0) ⊎ (length fs ≡ 0) → waits ms fs ≡ []
+waits_ended [] fs e = refl
+waits_ended (m ∷ ms) [] e = refl
+waits_ended (m ∷ ms) (f ∷ fs) (inl e) = absurd (omega arith)
+waits_ended (m ∷ ms) (f ∷ fs) (inr e) = absurd (omega arith)
 
-  pub body_no : is_second s (nth_wait ws k) ≡ false → body_of s (take (k + 1) ws) ≡ body_of s (take k ws) ++ []
-  body_no e = filter_more (is_second s) ws k no_wait lt ∙ ap (λ l. body_of s (take k ws) ++ l) (cond-false _ _ _ e)
-
--- the wait that a loop over meetings and firsts has at k
-module _ (ms : List Meeting) (fs : List First) (k s : ℕ) (w : Wait) (lt : k < min (length ms) (length fs)) (is : w ≡ wait_under (get_or ms k no_meeting) (get_or fs k Lower)) where
-  pub zip_within : k < length (waits ms fs)
-  zip_within = omega (arith, length-waits ms fs)
-
-  pub zip_is : w ≡ nth_wait (waits ms fs) k
-  zip_is = is ∙ sym (waits-at ms fs k (omega arith) (omega arith))
-
-  pub zip_yes : w.second.shuttle ≡ s → is_second s (nth_wait (waits ms fs) k) ≡ true
-  zip_yes e = ap (is_second s) (sym zip_is) ∙ eq-eqb _ _ e
-
-  pub zip_no : (w.second.shuttle ≡ s → ⊥) → is_second s (nth_wait (waits ms fs) k) ≡ false
-  zip_no e = ap (is_second s) (sym zip_is) ∙ ne_eqb _ _ e
-
--- the wait at a meeting that is there, and at one that is not
 pub wait_in : (ms : List Meeting) (k : ℕ) (f : First) → k < length ms → wait_by_number ms k f ≡ Some (wait_under (get_or ms k no_meeting) f)
 wait_in [] k f h = absurd (omega arith)
 wait_in (m ∷ ms) zero f h = refl
@@ -57,3 +42,27 @@ pub wait_out : (ms : List Meeting) (k : ℕ) (f : First) → length ms ≤ k →
 wait_out [] k f h = refl
 wait_out (m ∷ ms) zero f h = absurd (omega arith)
 wait_out (m ∷ ms) (suc k) f h = wait_out ms k f (omega arith)
+
+-- counting pairs of a meeting and its first counts a shuttle's waits
+pub second_is : (m : Meeting) (f : First) → (stops_in_order m f).1 ≡ (wait_under m f).second
+second_is m Lower = refl
+second_is m Other = refl
+
+abbrev pub is_pair_of : ℕ → Meeting × First → Bool
+is_pair_of s p = eqb (stops_in_order p.0 p.1).1.shuttle s
+
+length_cond : {X : Type 0} (b : Bool) (x : X) (xs : List X) → length (cond b (x ∷ xs) xs) ≡ cond b 1 0 + length xs
+length_cond true x xs = omega arith
+length_cond false x xs = omega arith
+
+pub count_is : (ms : List Meeting) (fs : List First) (s : ℕ) → count_by (is_pair_of s) (zip ms fs) ≡ length (body_of s (waits ms fs))
+count_is [] fs s = refl
+count_is (m ∷ ms) [] s = refl
+count_is (m ∷ ms) (f ∷ fs) s =
+    let same : is_pair_of s (m, f) ≡ is_second s (wait_under m f) = ap (λ a. eqb a.shuttle s) (second_is m f) in
+    sum_by-cons (λ p. cond (is_pair_of s p) 1 0) (m, f) (zip ms fs)
+    ∙ (λ i. cond (same i) 1 0 + count_is ms fs s i)
+    ∙ sym (length_cond (is_second s (wait_under m f)) (wait_under m f) (body_of s (waits ms fs)))
+
+pub count_few : (ms : List Meeting) (fs : List First) (s : ℕ) → count_by (is_pair_of s) (zip ms fs) ≤ length ms
+count_few ms fs s = omega (arith, count_by-le-length (is_pair_of s) (zip ms fs), length-zip ms fs)

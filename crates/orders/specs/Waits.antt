@@ -10,6 +10,11 @@ use Rattle.orders.specs.declared.waits.Wait.{Wait}
 abbrev pub following : At → At
 following a = record { shuttle = a.shuttle; stop = suc a.stop }
 
+-- the stop of the shuttle that goes first, and that of the second
+abbrev pub stops_in_order : Meeting → First → At × At
+stops_in_order m Lower = (m.lower, m.other)
+stops_in_order m Other = (m.other, m.lower)
+
 abbrev pub wait_under : Meeting → First → Wait
 wait_under m Lower = record { second = m.other; awaited = following m.lower }
 wait_under m Other = record { second = m.lower; awaited = following m.other }

@@ -1,5 +1,5 @@
 // Reading an order file back: the orders whose file it is, or that it is the file of none.
-ghost use Rattle.std.specs.Prelude.{◌≡◌, ◌^◌, ◌<◌, MatchBool, ◌≢◌, slice_index};
+ghost use Rattle.std.specs.Prelude.{◌≡◌, ◌^◌, ◌<◌, MatchBool, IsTrue, ◌↔◌, ◌≢◌, slice_index};
 ghost use Rattle.std.specs.List.{AllByRecursion};
 ghost use Rattle.files.specs.Layout.{word};
 ghost use Rattle.orders.specs.declared.read.ReadFault.TheVariants.{Memory};
@@ -9,18 +9,19 @@ ghost use Rattle.orders.specs.RoundTrip.{ReadsOrders};
 ghost use Rattle.orders.specs.Waits.{FitsMeeting};
 
 use crate::waits::{Wait, wait_of};
-use crate::write::write_orders;
+use crate::write::{OrderFault, write_orders};
 use meetings::meet::{First, Meeting};
 use plans::plan::Plan;
 use std::alloc::{AllocError, AllocFailed, Global};
 
 // Why no orders are read: the file is not an order file of the plan, or memory is wanting.
-#[derive(Clone, Copy)]
+#[derive(Clone, Copy, PartialEq, Eq, Debug)]
 pub enum ReadFault {
     NotOrders,
     Memory,
 }
 
+// Want of memory comes as two types of error. Both conversions are written out, since a derived one would not say what comes of it.
 impl From<AllocError> for ReadFault {
     ghost from_gives = { λ _ r. r ≡ Memory };
 
@@ -41,7 +42,7 @@ impl<T: Drop> From<AllocFailed<T>> for ReadFault {
 fn byte_at(bytes: &[u8], at: usize) -> u8
     ensures { result ≡ slice_index bytes.now at }
 {
-    if at < bytes.len() { bytes[at] } else { 0 }
+    bytes.get(at).copied().unwrap_or(0)
 }
 
 // The number at a place.
@@ -50,15 +51,13 @@ fn word_at(bytes: &[u8], at: usize) -> usize
     ensures value { result ≡ word bytes.now at }
     ensures small { result < 2 ^ 16 }
 {
-    let high = byte_at(bytes, at);
-    let low = byte_at(bytes, at + 1);
-    usize::from(high) * 256 + usize::from(low)
+    usize::from(u16::from_be_bytes([byte_at(bytes, at), byte_at(bytes, at + 1)]))
 }
 
 // Whether a wait is the entry at a place.
 fn entry_is(bytes: &[u8], at: usize, wait: &Wait) -> bool
     requires { at < 2 ^ 31 }
-    ensures { MatchBool result (EntryIs bytes.now at wait.now) (EntryIs bytes.now at wait.now → ⊥) }
+    ensures { IsTrue result ↔ EntryIs bytes.now at wait.now }
 {
     word_at(bytes, at) == wait.second.stop
         && word_at(bytes, at + 2) == wait.awaited.shuttle
@@ -69,14 +68,9 @@ fn entry_is(bytes: &[u8], at: usize, wait: &Wait) -> bool
 fn lists(bytes: &[u8], begin: usize, count: usize, wait: &Wait) -> bool
     requires small { begin < 2 ^ 16 }
     requires few { count < 2 ^ 16 }
-    ensures { MatchBool result (Lists bytes.now begin count wait.now) (Lists bytes.now begin count wait.now → ⊥) }
+    ensures { IsTrue result ↔ Lists bytes.now begin count wait.now }
 {
-    for k in 0..count {
-        if entry_is(bytes, begin + 6 * k, wait) {
-            return true;
-        }
-    }
-    false
+    (0..count).any(|k| entry_is(bytes, begin + 6 * k, wait))
 }
 
 // Who goes first at a meeting, if the file is one of the plan: the other shuttle, if the lower one's body has the wait.
@@ -101,26 +95,21 @@ fn guesses(heap: Global, bytes: &[u8], meetings: &[Meeting]) -> Result<Vec<First
     ensures { Guesses result bytes.now meetings.now }
 {
     let mut firsts = Vec::new(heap);
-    for k in 0..meetings.len() {
-        firsts.push(guess(bytes, &meetings[k]))?;
+    for meeting in meetings {
+        firsts.push(guess(bytes, meeting))?;
     }
     Ok(firsts)
-}
-
-fn same_bytes(a: &[u8], b: &[u8]) -> bool
-    ensures { MatchBool result (a.now ≡ b.now) (a.now ≢ b.now) }
-{
-    a == b
 }
 
 // Whether the order file of these orders is just these bytes. No order file has 50,000 bytes.
 fn is_file(plan: &Plan, firsts: &[First], bytes: &[u8]) -> bool
     ensures { MatchBool result (bytes.now ≡ plan_orders plan.now firsts.now) (bytes.now ≢ plan_orders plan.now firsts.now) }
 {
+    // Lent memory of a fixed size, so that the comparison itself cannot fail for want of memory.
     let mut scratch = [0u8; 50000];
     match write_orders(plan, firsts, &mut scratch) {
-        Ok(len) => same_bytes(&scratch[0..len], bytes),
-        Err(_) => false,
+        Ok(len) => &scratch[..len] == bytes,
+        Err(OrderFault::Short) => false,
     }
 }
 

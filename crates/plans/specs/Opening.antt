@@ -1,6 +1,7 @@
 -- What opening a plan answers, and the numbers of its refusals.
 use Rattle.std.specs.Prelude.{◌≡◌, ℕ, ◌<◌, ◌≤◌, List, [], ◌∷◌, length, Some, None, Ok, Err, vec_items, Option, Result}
 use Rattle.std.specs.List.{ContainsAt}
+use Rattle.std.specs.Option.{option_map}
 use Rattle.files.specs.declared.layout.FileFault.TheVariants.{Torn}
 use Rattle.files.specs.declared.layout.FileFault.TheVariants as file
 use Rattle.files.specs.Bytes.{plan_bytes, Limits}
@@ -50,6 +51,9 @@ refusal (Path f) = Some (record { number = 4; values = offender f ∷ offence f 
 refusal (Meetings meeting.TooMany) = Some (record { number = 6; values = [] })
 refusal (Meetings (meeting.Collision c)) = Some (record { number = 5; values = c.lower.shuttle ∷ c.lower.stop ∷ c.other.shuttle ∷ c.other.stop ∷ [] })
 refusal (Meetings meeting.Memory) = None
+
+abbrev pub refusal_number : PlanFault → Option ℕ
+refusal_number f = option_map (λ (r : Refusal). r.number) (refusal f)
 
 -- the file of a plan that keeps all rules
 pub record Takable (bs : List ℕ) (l : Layout) : Type 0 where

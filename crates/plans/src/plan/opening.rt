@@ -2,7 +2,7 @@
 ghost use Rattle.std.specs.Prelude.{◌≡◌};
 ghost use Rattle.files.specs.Views.{paths_of};
 ghost use Rattle.plans.specs.declared.plan.opening.PlanFault.TheVariants.{File, Path, Meetings};
-ghost use Rattle.plans.specs.Opening.{Opens, OpensExactly, FirstsStand};
+ghost use Rattle.plans.specs.Opening.{refusal_number, Opens, OpensExactly, FirstsStand};
 
 use super::Plan;
 use files::layout::{FileFault, read_file};
@@ -13,7 +13,7 @@ use meetings::settle;
 use std::alloc::Global;
 
 // Why a plan is refused.
-#[derive(Clone, Copy)]
+#[derive(Clone, Copy, PartialEq, Eq, Debug)]
 pub enum PlanFault {
     File(FileFault),
     Path(PathFault),
@@ -41,6 +41,21 @@ impl From<MeetingFault> for PlanFault {
 
     fn from(e: MeetingFault) -> PlanFault {
         PlanFault::Meetings(e)
+    }
+}
+
+impl PlanFault {
+    // The number of a refusal; want of memory has none.
+    pub fn number(self) -> Option<u8>
+        ensures { result ≡ refusal_number self }
+    {
+        match self {
+            PlanFault::File(FileFault::Torn(_)) => Some(3),
+            PlanFault::Path(_) => Some(4),
+            PlanFault::Meetings(MeetingFault::Collision(_)) => Some(5),
+            PlanFault::Meetings(MeetingFault::TooMany) => Some(6),
+            PlanFault::File(FileFault::Memory) | PlanFault::Meetings(MeetingFault::Memory) => None,
+        }
     }
 }
 

@@ -9,18 +9,18 @@ use Rattle.orders.proofs.Zipped.{no_meeting}
 use Rattle.orders.proofs.read.guesses.Goals as goal
 
 pub guess-requires : goal.guess-requires
-guess-requires c = All-get_or FitsMeeting c.args.meetings.now c.loop-k.k no_meeting c.loop-k-test.true c.requires
+guess-requires c = All-get_or FitsMeeting c.args.meetings.now c.loop-meeting.meeting-index no_meeting c.loop-meeting-test.true c.requires
 
-pub loop-k-preserved : goal.loop-k-preserved
-loop-k-preserved c =
-    let old = vec_items c.loop-k.firsts in
+pub loop-meeting-preserved : goal.loop-meeting-preserved
+loop-meeting-preserved c =
+    let old = vec_items c.loop-meeting.firsts in
     let bs = c.args.bytes.now in
     let ms = c.args.meetings.now in
     let items = c.in_ok-push.ensures.items in
     let At : ℕ → First → Type 0 = λ j f. Guessed bs (get_or ms j no_meeting) f in
     let P : ℕ → Type 0 = λ j. At j (get_or (vec_items c.push.new.self) j Lower) in (
-      ap length items ∙ length_push old c.guess.result ∙ ap (λ k. k + 1) c.loop-k.invariant.0,
-      below_more P c.loop-k.k
-          (λ j lt. subst (At j) (sym (ap (λ l. get_or l j Lower) items ∙ get_or_append_left old _ Lower j (omega (arith, c.loop-k.invariant.0)))) (c.loop-k.invariant.1 j lt))
-          (subst (At c.loop-k.k) (sym (ap (λ l. get_or l c.loop-k.k Lower) items ∙ get_or_push old c.guess.result Lower c.loop-k.k c.loop-k.invariant.0)) c.guess.ensures),
+      ap length items ∙ length_push old c.guess.result ∙ ap (λ k. k + 1) c.loop-meeting.invariant.0,
+      below_more P c.loop-meeting.meeting-index
+          (λ j lt. subst (At j) (sym (ap (λ l. get_or l j Lower) items ∙ get_or_append_left old _ Lower j (omega (arith, c.loop-meeting.invariant.0)))) (c.loop-meeting.invariant.1 j lt))
+          (subst (At c.loop-meeting.meeting-index) (sym (ap (λ l. get_or l c.loop-meeting.meeting-index Lower) items ∙ get_or_push old c.guess.result Lower c.loop-meeting.meeting-index c.loop-meeting.invariant.0)) c.guess.ensures),
     )

@@ -1,26 +1,24 @@
-use Rattle.std.proofs.Common.{[], ◌∷◌, ◌++◌, vec_items, sym, ap, ◌∙◌, subst}
-use Rattle.std.specs.List.{AllByRecursion}
-use Rattle.std.proofs.ByRecursion.{All-get_or}
+use Rattle.std.proofs.Common.{◌<◌, List, length, get_or, [], ◌∷◌, ◌++◌, sym, ap, ◌∙◌, subst}
 use Rattle.std.proofs.lemmas.List.{map_more, take_all}
-use Rattle.files.specs.Views.{paths_of}
+use Rattle.meetings.specs.declared.meet.Meeting.{Meeting}
 use Rattle.orders.specs.Waits.{own_wait, own_waits, FitsMeeting}
-use Rattle.orders.proofs.Sound.{meetings_fit}
+use Rattle.orders.proofs.Sound.{plan_fits}
 use Rattle.orders.proofs.Zipped.{no_meeting}
 use Rattle.orders.proofs.waits.plan_waits.Goals as goal
 
 pub wait_of-requires : goal.wait_of-requires
 wait_of-requires c =
-    let plan = c.args.plan.now in
-    let all = subst (AllByRecursion FitsMeeting) (sym c.meetings-meetings.ensures) (meetings_fit (paths_of (vec_items plan.paths)) (vec_items plan.tables) (vec_items plan.meetings) plan.sound) in
-    All-get_or FitsMeeting c.meetings-meetings.result.now c.loop-k.k no_meeting c.loop-k-test.true all
+    let i = c.loop-meeting.meeting-index in
+    let lt = subst (λ (ms : List Meeting). i < length ms) c.meetings-meeting-items.ensures c.loop-meeting-test.true in
+    subst (λ (ms : List Meeting). FitsMeeting (get_or ms i no_meeting)) (sym c.meetings-meeting-items.ensures) (plan_fits c.args.plan.now i lt)
 
-pub loop-k-preserved : goal.loop-k-preserved
-loop-k-preserved c =
-    let ms = c.meetings-meetings.result.now in
+pub loop-meeting-preserved : goal.loop-meeting-preserved
+loop-meeting-preserved c =
+    let ms = c.meetings-meeting-items.result.now in
     c.in_ok-push.ensures.items
-    ∙ (λ i. c.loop-k.invariant i ++ c.wait_of.ensures i ∷ [])
-    ∙ sym (map_more own_wait ms c.loop-k.k no_meeting c.loop-k-test.true)
+    ∙ (λ i. c.loop-meeting.invariant i ++ c.wait_of.ensures i ∷ [])
+    ∙ sym (map_more own_wait ms c.loop-meeting.meeting-index no_meeting c.loop-meeting-test.true)
 
 pub returns : goal.returns
 returns c =
-    c.loop-k.invariant ∙ ap own_waits (take_all c.loop-k.k c.meetings-meetings.result.now c.loop-k-test.false ∙ c.meetings-meetings.ensures)
+    c.loop-meeting.invariant ∙ ap own_waits (take_all c.loop-meeting.meeting-index c.meetings-meeting-items.result.now c.loop-meeting-test.false ∙ c.meetings-meeting-items.ensures)

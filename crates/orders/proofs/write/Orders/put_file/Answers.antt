@@ -3,28 +3,28 @@ use Rattle.std.specs.List.{range_with_len, flat_map}
 use Rattle.std.proofs.lemmas.List.{length-append}
 use Rattle.files.specs.Bytes.{word_bytes}
 use Rattle.orders.specs.File.{body_bytes, entry_bytes, order_bytes, over}
-use Rattle.orders.specs.Waits.{waits}
+use Rattle.orders.specs.Plans.{shuttles_of, waits_of}
 use Rattle.orders.proofs.Bodies.{length-entries, length-bodies, length-order_bytes}
 use Rattle.orders.proofs.Buffers.{over_more}
-use Rattle.orders.proofs.write.put_orders.Goals as goal
+use Rattle.orders.proofs.write.Orders.put_file.Goals as goal
 
 pub returns-then-out-len : goal.returns-then-out-len
 returns-then-out-len c =
-    (omega (arith, length-order_bytes c.args.shuttles (waits c.args.meetings.now c.args.firsts.now), c.file_len-len.ensures, c.if-out-len.true), refl)
+    (omega (arith, length-order_bytes (shuttles_of c.args.self.now) (waits_of c.args.self.now), c.file_len-len.ensures, c.if-out-len.true), refl)
 
 pub put_contents-requires : goal.put_contents-requires
 put_contents-requires c =
-    record { few = c.requires.few; met = c.requires.met; space = omega (arith, c.file_len-len.ensures, c.if-out-len.false, c.put_word.auto.out); fits = c.requires.fits }
+    omega (arith, c.file_len-len.ensures, c.if-out-len.false, c.put_word.auto.out)
 
 pub put_bodies-requires : goal.put_bodies-requires
 put_bodies-requires c =
-    let long = length-bodies (waits c.args.meetings.now c.args.firsts.now) c.args.shuttles in
-    record { few = c.requires.few; space = omega (arith, c.file_len-len.ensures, c.if-out-len.false, c.put_word.auto.out, c.put_contents.auto.out); fits = c.requires.fits }
+    let long = length-bodies (waits_of c.args.self.now) (shuttles_of c.args.self.now) in
+    omega (arith, c.file_len-len.ensures, c.if-out-len.false, c.put_word.auto.out, c.put_contents.auto.out)
 
 pub returns : goal.returns
 returns c =
-    let n = c.args.shuttles in
-    let ws = waits c.args.meetings.now c.args.firsts.now in
+    let n = shuttles_of c.args.self.now in
+    let ws = waits_of c.args.self.now in
     let old = c.args.out.now in
     let a = word_bytes n in
     let b = flat_map (entry_bytes n ws) (range_with_len 0 n) in
@@ -38,7 +38,7 @@ returns c =
     let end : 0 + length (order_bytes n ws) ≡ c.file_len-len.result = omega arith in (
       whole,
       c.put_bodies.ensures
-          ∙ ap (λ o. over o (2 + 4 * n) d) (c.put_contents.ensures ∙ ap (λ o. over o 2 b) c.put_word.ensures ∙ first)
+          ∙ ap (λ o. over o (2 + 4 * n) d) (c.put_contents.ensures ∙ ap (λ o. over o 2 b) (c.put_word.ensures ∙ ap (λ k. over old 0 (word_bytes k)) c.shuttles.ensures.value) ∙ first)
           ∙ second
           ∙ ap (λ k. order_bytes n ws ++ drop k old) end,
     )

@@ -2,39 +2,39 @@ use Rattle.std.proofs.Common.{◌≡◌, ◌+◌, ◌++◌, sym, refl, ap, ◌�
 use Rattle.std.proofs.lemmas.List.{length-append}
 use Rattle.files.specs.Bytes.{word_bytes}
 use Rattle.orders.specs.File.{entry_bytes, over}
-use Rattle.orders.specs.Waits.{waits}
+use Rattle.orders.specs.Plans.{shuttles_of, waits_of}
 use Rattle.meetings.proofs.Counts.{joined_counting_more}
 use Rattle.meetings.proofs.Places.{upto}
 use Rattle.orders.proofs.Bodies.{before_more, length-entries}
 use Rattle.orders.proofs.Buffers.{over_none, over_more}
-use Rattle.orders.proofs.write.put_contents.Goals as goal
+use Rattle.orders.proofs.write.Orders.put_contents.Goals as goal
 
 pub loop-shuttle-init : goal.loop-shuttle-init
 loop-shuttle-init c = (sym (over_none c.args.out.now 2), refl, omega arith, omega arith)
 
 pub loop-shuttle-preserved : goal.loop-shuttle-preserved
 loop-shuttle-preserved c =
-    let n = c.args.shuttles in
-    let ws = waits c.args.meetings.now c.args.firsts.now in
+    let n = shuttles_of c.args.self.now in
+    let ws = waits_of c.args.self.now in
     let f = entry_bytes n ws in
     let s = c.loop-shuttle.shuttle in
     let at = c.loop-shuttle.at in
     let old = c.args.out.now in
     let done = upto f s in
     let a = word_bytes c.loop-shuttle.begin in
-    let b = word_bytes c.count_waits-count.result in
+    let b = word_bytes c.count-count.result in
     let long = length-entries n ws s in
-    let first = over_more old 2 done a at (omega (arith, c.loop-shuttle.invariant.1)) (omega (arith, c.requires.space)) in
-    let second = over_more old 2 (done ++ a) b (at + 2) (omega (arith, c.loop-shuttle.invariant.1, length-append done a)) (omega (arith, c.requires.space, length-append done a)) in
-    let here : a ++ b ≡ f s = (λ i. word_bytes (c.loop-shuttle.invariant.2 i) ++ word_bytes (c.count_waits-count.ensures.count i)) in (
+    let first = over_more old 2 done a at (omega (arith, c.loop-shuttle.invariant.1)) (omega (arith, c.requires)) in
+    let second = over_more old 2 (done ++ a) b (at + 2) (omega (arith, c.loop-shuttle.invariant.1, length-append done a)) (omega (arith, c.requires, length-append done a)) in
+    let here : a ++ b ≡ f s = (λ i. word_bytes (c.loop-shuttle.invariant.2 i) ++ word_bytes (c.count-count.ensures.count i)) in (
       c.put_word-in-loop-shuttle.ensures
           ∙ ap (λ o. over o (at + 2) b) (c.put_word.ensures ∙ ap (λ o. over o at a) c.loop-shuttle.invariant.0 ∙ first)
           ∙ second
           ∙ ap (over old 2) (append_assoc done a b ∙ ap (λ l. done ++ l) here ∙ sym (joined_counting_more f s)),
       omega (arith, c.loop-shuttle.invariant.1),
-      omega (arith, c.loop-shuttle.invariant.2, c.count_waits-count.ensures.count, before_more ws s),
-      omega (arith, c.loop-shuttle.invariant.3, c.count_waits-count.ensures.few, c.requires.met),
+      omega (arith, c.loop-shuttle.invariant.2, c.count-count.ensures.count, before_more ws s),
+      omega (arith, c.loop-shuttle.invariant.3, c.count-count.ensures.few),
     )
 
 pub returns : goal.returns
-returns c = let f = entry_bytes c.args.shuttles (waits c.args.meetings.now c.args.firsts.now) in let n : c.loop-shuttle.shuttle ≡ c.args.shuttles = omega arith in c.loop-shuttle.invariant.0 ∙ ap (λ k. over c.args.out.now 2 (upto f k)) n
+returns c = let f = entry_bytes (shuttles_of c.args.self.now) (waits_of c.args.self.now) in let n : c.loop-shuttle.shuttle ≡ shuttles_of c.args.self.now = omega arith in c.loop-shuttle.invariant.0 ∙ ap (λ k. over c.args.out.now 2 (upto f k)) n
