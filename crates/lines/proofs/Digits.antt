@@ -1,14 +1,16 @@
 -- The digits in front, and what they are worth.
-use Rattle.std.proofs.Common.{◌≡◌, ℕ, suc, ◌+◌, ◌-◌, ◌*◌, ◌^◌, ◌<◌, ◌≤◌, Bool, true, false, cond, ◌&&◌, leb, List, [], ◌∷◌, ◌++◌, length, get_or, take, drop, decimal, refl, ap, ◌∙◌, arith, rules}
+use Rattle.std.proofs.Common.{◌≡◌, ℕ, suc, ◌+◌, ◌-◌, ◌*◌, ◌^◌, ◌<◌, ◌≤◌, Bool, true, false, cond, ◌&&◌, leb, List, [], ◌∷◌, ◌++◌, length, get_or, take, decimal, refl, ap, ◌∙◌, arith, rules}
 use Rattle.std.proofs.lemmas.Fmt.{digits_decimal, digits_value-decimal, length-decimal-le, decimal_nonempty}
 use Rattle.std.proofs.lemmas.Int.Digits.{digits_value_more}
 use Rattle.std.proofs.ByRecursion.{All-get_or, All-take}
-use Rattle.std.proofs.lemmas.List.{at_drop_more, at_drop_all, length-take}
+use Rattle.std.proofs.lemmas.List.Sums.{take_while-cons}
+use Rattle.std.proofs.lemmas.List.{length-take}
 use Rattle.std.proofs.lemmas.Str.Parse.{IsNumeralModel, numerals_by_weight, digits_value_short}
-use Rattle.std.proofs.lemmas.Bool.{le-leb, leb-true, cond-true, cond-false, and_from, and_parts}
+use Rattle.std.proofs.lemmas.Bool.{le-leb, leb-true, cond-true, and_from, and_parts}
 use Rattle.std.proofs.lemmas.Str.{digit_value_digit}
 use Rattle.std.specs.Int.{IsInRange}
-use Rattle.lines.specs.Numbers.{Digits, worth, Writes, count_of_digits}
+use Rattle.std.specs.List.{take_while}
+use Rattle.lines.specs.Numbers.{is_digit, Digits, worth, Writes, count_of_digits}
 
 pub own : IsNumeralModel Digits worth
 own = numerals_by_weight Digits (search rules) worth (search rules)
@@ -52,21 +54,14 @@ count_exact (d ∷ ds) rest all none =
     cond-true (leb 48 d && leb d 57) (suc (count_of_digits (ds ++ rest))) 0 (and_from (leb 48 d) (leb d 57) (le-leb 48 d all.0.0) (le-leb d 57 all.0.1))
     ∙ ap suc (count_exact ds rest all.1 none)
 
--- at another byte, past a digit, and at the end
-pub count_here : (bs : List ℕ) (i : ℕ) → i < length bs → (leb 48 (get_or bs i 0) && leb (get_or bs i 0) 57) ≡ false → count_of_digits bs ≡ i + count_of_digits (drop i bs) → i ≡ count_of_digits bs
-count_here bs i lt e inv =
-    let step : count_of_digits (drop i bs) ≡ cond (leb 48 (get_or bs i 0) && leb (get_or bs i 0) 57) (suc (count_of_digits (drop (i + 1) bs))) 0 = at_drop_more count_of_digits bs i 0 lt in
-    let here = cond-false (leb 48 (get_or bs i 0) && leb (get_or bs i 0) 57) (suc (count_of_digits (drop (i + 1) bs))) 0 e in
-    omega arith
-
-pub count_on : (bs : List ℕ) (i : ℕ) → i < length bs → (leb 48 (get_or bs i 0) && leb (get_or bs i 0) 57) ≡ true → count_of_digits bs ≡ i + count_of_digits (drop i bs) → count_of_digits bs ≡ i + 1 + count_of_digits (drop (i + 1) bs)
-count_on bs i lt e inv =
-    let step : count_of_digits (drop i bs) ≡ cond (leb 48 (get_or bs i 0) && leb (get_or bs i 0) 57) (suc (count_of_digits (drop (i + 1) bs))) 0 = at_drop_more count_of_digits bs i 0 lt in
-    let here = cond-true (leb 48 (get_or bs i 0) && leb (get_or bs i 0) 57) (suc (count_of_digits (drop (i + 1) bs))) 0 e in
-    omega arith
-
-pub count_all : (bs : List ℕ) (i : ℕ) → length bs ≤ i → count_of_digits bs ≡ i + count_of_digits (drop i bs) → count_of_digits bs ≡ i
-count_all bs i le inv = omega (arith, at_drop_all count_of_digits bs i le)
+-- the digits in front are those that the library's word takes
+pub count_is : (bs : List ℕ) → length (take_while is_digit bs) ≡ count_of_digits bs
+count_is [] = refl
+count_is (b ∷ bs) = ap length (take_while-cons is_digit b bs) ∙ go (is_digit b) (count_is bs)
+  where
+    go : (t : Bool) → length (take_while is_digit bs) ≡ count_of_digits bs → length (cond t (b ∷ take_while is_digit bs) []) ≡ cond t (suc (count_of_digits bs)) 0
+    go true e = ap suc e
+    go false e = refl
 
 -- what is printed of a number writes it
 pub decimal_writes : (n : ℕ) → n < 2 ^ 32 → Writes (decimal n) n

@@ -1,9 +1,12 @@
 -- The numbers of a line: decimal, with one space before each.
-use Rattle.std.specs.Prelude.{◌≡◌, ℕ, suc, ◌+◌, ◌-◌, ◌*◌, ◌^◌, ◌<◌, ◌≤◌, cond, ◌&&◌, List, [], ◌∷◌, length, take, drop, Some, None, Option, ◌==◌, nat_le, nat_lt}
+use Rattle.std.specs.Prelude.{◌≡◌, ℕ, suc, ◌+◌, ◌-◌, ◌*◌, ◌^◌, ◌<◌, ◌≤◌, cond, ◌&&◌, Bool, List, [], ◌∷◌, length, take, drop, Some, None, Option, ◌==◌, nat_le, nat_lt}
 use Rattle.std.specs.Borrow.{Bor}
 use Rattle.std.specs.List.{AllByRecursion}
 
 -- a digit is one of the bytes 48 to 57
+abbrev pub is_digit : ℕ → Bool
+is_digit b = nat_le 48 b && nat_le b 57
+
 abbrev pub Digits : List ℕ → Type 0
 Digits ds = AllByRecursion (λ d. (48 ≤ d) × (d ≤ 57)) ds
 
@@ -23,7 +26,7 @@ pub record Writes (ds : List ℕ) (n : ℕ) : Type 0 where
 -- how many digits stand in front
 abbrev pub count_of_digits : List ℕ → ℕ
 count_of_digits [] = 0
-count_of_digits (b ∷ bs) = cond (nat_le 48 b && nat_le b 57) (suc (count_of_digits bs)) 0
+count_of_digits (b ∷ bs) = cond (is_digit b) (suc (count_of_digits bs)) 0
 
 -- what was read goes on; a bad line ends the reading
 abbrev pub then : {X Y : Type 0} → Option X → (X → Option Y) → Option Y

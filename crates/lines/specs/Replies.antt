@@ -3,8 +3,12 @@ use Rattle.std.specs.Prelude.{ℕ, List, [], ◌∷◌, ◌++◌, codes, decimal
 use Rattle.lines.specs.declared.replies.Reply.{Reply}
 use Rattle.lines.specs.declared.replies.Reply.TheVariants.{Held, Ticked, Refused, NoMemory}
 
+-- what is printed of a reply
+abbrev pub reply_words : Reply → List ℕ
+reply_words Held = codes "H"
+reply_words (Ticked moved) = codes "T " ++ decimal moved
+reply_words (Refused number) = codes "no " ++ decimal number
+reply_words NoMemory = codes "no memory"
+
 abbrev pub reply_text : Reply → List ℕ
-reply_text Held = codes "H" ++ 10 ∷ []
-reply_text (Ticked moved) = codes "T " ++ decimal moved ++ 10 ∷ []
-reply_text (Refused number) = codes "no " ++ decimal number ++ 10 ∷ []
-reply_text NoMemory = codes "no memory" ++ 10 ∷ []
+reply_text r = reply_words r ++ 10 ∷ []

@@ -6,7 +6,7 @@ use crate::numbers::{last_number, last_two_numbers};
 use std::alloc::{AllocError, Global};
 
 // Hold a shuttle for some ticks, or tick with a standing word.
-#[derive(Clone, Copy)]
+#[derive(Clone, Copy, PartialEq, Eq, Debug)]
 pub enum Command {
     Hold { shuttle: u32, ticks: u32 },
     Tick { standing: u32 },
@@ -34,6 +34,7 @@ pub fn read_line(line: &[u8]) -> Option<Command>
 }
 
 // The line of a command.
+// It is no `Display`: that the line reads back rests on the range of each number, which a proof has where the command is taken apart here.
 pub fn command_line(heap: Global, command: Command) -> Result<String, AllocError>
     ensures text { IfOk result (λ t. string_bytes t ≡ command_text command) }
     ensures back { IfOk result (λ t. command_of (string_bytes t) ≡ Some command) }

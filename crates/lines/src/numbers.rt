@@ -1,24 +1,20 @@
 // The numbers of a line: decimal, with one space before each.
-ghost use Rattle.std.specs.Prelude.{◌≡◌, ◌≤◌, length};
+ghost use Rattle.std.specs.Prelude.{◌≡◌, ◌^◌, ◌<◌, ◌≤◌, length, MatchOption};
 ghost use Rattle.std.specs.Option.{option_map};
-ghost use Rattle.lines.specs.Numbers.{Digits, count_of_digits, worth, taken, number_of, one_number, two_numbers};
+ghost use Rattle.std.specs.List.{take_while};
+ghost use Rattle.lines.specs.Numbers.{is_digit, Digits, worth, taken, number_of, one_number, two_numbers};
 
 // A number has at most this many digits.
 const MOST_DIGITS: usize = 10;
 
-// A number is at most this.
-const LARGEST: u64 = 4_294_967_295;
-
 // How many digits stand in front.
 fn digit_count(bytes: &[u8]) -> usize
-    ensures { result ≡ count_of_digits bytes.now }
+    ensures { result ≡ length (take_while is_digit bytes.now) }
 {
-    for (i, byte) in bytes.iter().enumerate() {
-        if *byte < b'0' || *byte > b'9' {
-            return i;
-        }
-    }
-    bytes.len()
+    bytes
+        .iter()
+        .take_while(|byte| byte.is_ascii_digit())
+        .count()
 }
 
 // What at most ten digits are worth.
@@ -34,6 +30,13 @@ fn digits_worth(digits: &[u8]) -> u64
     value
 }
 
+// A number of 32 bits; none where it has more.
+fn narrow(value: u64) -> Option<u32>
+    ensures { MatchOption result (2 ^ 32 ≤ value) (λ n. (n ≡ value) × (value < 2 ^ 32)) }
+{
+    u32::try_from(value).ok()
+}
+
 // The number in front, and what follows it.
 fn read_number(bytes: &[u8]) -> Option<(u32, &[u8])>
     ensures { option_map taken result ≡ number_of bytes.now }
@@ -46,11 +49,8 @@ fn read_number(bytes: &[u8]) -> Option<(u32, &[u8])>
         return None;
     }
     let (digits, after) = rest.split_at(count);
-    let value = digits_worth(digits);
-    if value > LARGEST {
-        return None;
-    }
-    Some((value as u32, after))
+    let value = narrow(digits_worth(digits))?;
+    Some((value, after))
 }
 
 // The number that ends a line.

@@ -1,11 +1,13 @@
 // What the console answers.
-ghost use Rattle.std.specs.Prelude.{◌≡◌, IfOk, string_bytes};
-ghost use Rattle.lines.specs.Replies.{reply_text};
+ghost use Rattle.std.specs.Prelude.{◌≡◌, IfOk, Some, string_bytes};
+ghost use Rattle.lines.specs.Replies.{reply_words, reply_text};
 
 use std::alloc::{AllocError, Global};
+use std::fmt;
 
 // A hold was taken, a tick was made and this word moved, the command was refused with a number, or memory was wanting.
-#[derive(Clone, Copy)]
+// The number is what is printed; the kinds of refusals are those of the crates that refuse.
+#[derive(Clone, Copy, PartialEq, Eq, Debug)]
 pub enum Reply {
     Held,
     Ticked { moved: u32 },
@@ -13,14 +15,22 @@ pub enum Reply {
     NoMemory,
 }
 
+impl fmt::Display for Reply {
+    ghost output = { λ r. Some (reply_words r) };
+
+    fn fmt<W: fmt::Write>(&self, f: &mut fmt::Formatter<W>) -> fmt::Result {
+        match self {
+            Reply::Held => write!(f, "H"),
+            Reply::Ticked { moved } => write!(f, "T {moved}"),
+            Reply::Refused { number } => write!(f, "no {number}"),
+            Reply::NoMemory => write!(f, "no memory"),
+        }
+    }
+}
+
 // The line of a reply.
 pub fn reply_line(heap: Global, reply: Reply) -> Result<String, AllocError>
     ensures { IfOk result (λ t. string_bytes t ≡ reply_text reply) }
 {
-    match reply {
-        Reply::Held => String::from_str(heap, "H\n"),
-        Reply::Ticked { moved } => format!(in heap; "T {moved}\n"),
-        Reply::Refused { number } => format!(in heap; "no {number}\n"),
-        Reply::NoMemory => String::from_str(heap, "no memory\n"),
-    }
+    format!(in heap; "{reply}\n")
 }
