@@ -1,7 +1,7 @@
 // What the console makes of a line.
 #![tactic(auto)]
 
-ghost use Rattle.std.specs.Prelude.{◌≡◌};
+ghost use Rattle.std.specs.Prelude.{◌≡◌, MatchResult};
 ghost use Rattle.lines.specs.Lines.{command_of};
 ghost use Rattle.run.specs.Views.{state_of};
 ghost use Rattle.desk.specs.Replies.{refused_by, reply_to, state_after, reply_to_line, state_after_line};
@@ -11,16 +11,30 @@ use lines::replies::Reply;
 use run::refusals::Refusal;
 use run::run::Run;
 
-// The number of a bad line.
+// The number of a bad line, which no call refuses and so no enum of refusals has.
 const BAD_LINE: u8 = 17;
 
 // The reply to what is refused.
 pub fn refused(why: Refusal) -> Reply
     ensures { result ≡ refused_by why }
 {
-    match why.number() {
-        Some(number) => Reply::Refused { number },
-        None => Reply::NoMemory,
+    why.number()
+        .map_or(Reply::NoMemory, |number| Reply::Refused { number })
+}
+
+fn call(run: &mut Run, command: Command) -> Result<Reply, Refusal>
+    ensures reply { MatchResult result (λ r. r ≡ reply_to command (state_of run.old)) (λ why. refused_by why ≡ reply_to command (state_of run.old)) }
+    ensures state { state_of run.new ≡ state_after command (state_of run.old) }
+{
+    match command {
+        Command::Hold { shuttle, ticks } => {
+            run.hold(shuttle as usize, ticks)?;
+            Ok(Reply::Held)
+        }
+        Command::Tick { standing } => {
+            let moved = run.tick(standing)?;
+            Ok(Reply::Ticked { moved })
+        }
     }
 }
 
@@ -29,15 +43,9 @@ pub fn obey(run: &mut Run, command: Command) -> Reply
     ensures reply { result ≡ reply_to command (state_of run.old) }
     ensures state { state_of run.new ≡ state_after command (state_of run.old) }
 {
-    match command {
-        Command::Hold { shuttle, ticks } => match run.hold(shuttle as usize, ticks) {
-            Ok(()) => Reply::Held,
-            Err(why) => refused(why),
-        },
-        Command::Tick { standing } => match run.tick(standing) {
-            Ok(moved) => Reply::Ticked { moved },
-            Err(why) => refused(why),
-        },
+    match call(run, command) {
+        Ok(reply) => reply,
+        Err(why) => refused(why),
     }
 }
 

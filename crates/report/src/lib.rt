@@ -1,15 +1,18 @@
-// What the register prints.
+// What the register prints. The lines are functions and no impls of `Display`, since the values are of types of other crates.
 #![tactic(auto)]
 
-ghost use Rattle.std.specs.Prelude.{◌≡◌, ◌++◌, length, IfOk, string_bytes, sum_by, OnOk};
+ghost use Rattle.std.specs.Prelude.{◌≡◌, [], ◌∷◌, ◌++◌, length, IfOk, string_bytes, sum_by, OnOk};
+ghost use Rattle.files.specs.Rules.{offender, offence};
 ghost use Rattle.files.specs.Views.{path_of, paths_of};
 ghost use Rattle.plans.specs.Opening.{plan_layout};
 ghost use Rattle.report.specs.Texts.{path_text, path_texts, wait_text, wait_texts, counts_text, text_of_plan, numbered_text, refusal_text, text_of_answer, orders_text};
 
 use files::layout::FileFault;
-use files::plan::Path;
+use files::plan::{Path, Stop};
 use files::rules::PathFault;
+use meetings::clash::Clash;
 use meetings::meet::MeetingFault;
+use meetings::stays::At;
 use orders::waits::{Wait, plan_waits};
 use plans::plan::Plan;
 use plans::plan::opening::PlanFault;
@@ -20,11 +23,9 @@ pub fn path_line(heap: Global, shuttle: usize, path: &Path) -> Result<String, Al
     ensures { IfOk result (λ t. string_bytes t ≡ path_text shuttle (path_of path.now)) }
 {
     let mut text = format!(in heap; "shuttle {shuttle}:")?;
-    for stop in path.stops.iter() {
-        let place = stop.place;
-        let tick = stop.tick;
-        let part = format!(in heap; " place {place} (tick {tick})")?;
-        text.push_str(part.as_str())?;
+    for stop in &path.stops {
+        let Stop { place, tick } = *stop;
+        write!(text, " place {place} (tick {tick})")?;
     }
     text.push_str("\n")?;
     Ok(text)
@@ -34,14 +35,12 @@ pub fn path_line(heap: Global, shuttle: usize, path: &Path) -> Result<String, Al
 pub fn wait_line(heap: Global, wait: &Wait) -> Result<String, AllocError>
     ensures { IfOk result (λ t. string_bytes t ≡ wait_text wait.now) }
 {
-    let stop = wait.second.stop;
-    let shuttle = wait.second.shuttle;
-    let awaited = wait.awaited.stop;
+    let At { shuttle, stop } = wait.second;
     let other = wait.awaited.shuttle;
-    let text = format!(in heap;
+    let awaited = wait.awaited.stop;
+    format!(in heap;
         "stop {stop} of shuttle {shuttle} waits for stop {awaited} of shuttle {other}\n"
-    )?;
-    Ok(text)
+    )
 }
 
 // A refusal with its number and the values that it gives.
@@ -50,38 +49,38 @@ fn numbered(heap: Global, number: u8, values: &[usize]) -> Result<String, AllocE
 {
     let mut text = format!(in heap; "no {number}")?;
     for value in values {
-        let value = *value;
-        let part = format!(in heap; " {value}")?;
-        text.push_str(part.as_str())?;
+        write!(text, " {value}")?;
     }
     text.push_str("\n")?;
     Ok(text)
+}
+
+// The shuttle and the stop of an offence.
+fn offence_values(fault: PathFault) -> [usize; 2]
+    ensures { result ≡ offender fault ∷ offence fault ∷ [] }
+{
+    match fault {
+        PathFault::Start { shuttle } => [shuttle, 0],
+        PathFault::Tick { shuttle, stop } | PathFault::Place { shuttle, stop } => [shuttle, stop],
+    }
 }
 
 // A refusal, in a line.
 pub fn refusal_line(heap: Global, fault: PlanFault) -> Result<String, AllocError>
     ensures { IfOk result (λ t. string_bytes t ≡ refusal_text fault) }
 {
+    let Some(number) = fault.number() else {
+        return String::from_str(heap, "no memory\n");
+    };
     match fault {
-        PlanFault::File(FileFault::Torn(place)) => numbered(heap, 3, &[place]),
-        PlanFault::File(FileFault::Memory) => String::from_str(heap, "no memory\n"),
-        PlanFault::Path(PathFault::Start { shuttle }) => numbered(heap, 4, &[shuttle, 0]),
-        PlanFault::Path(PathFault::Tick { shuttle, stop }) => numbered(heap, 4, &[shuttle, stop]),
-        PlanFault::Path(PathFault::Place { shuttle, stop }) => numbered(heap, 4, &[shuttle, stop]),
-        PlanFault::Meetings(MeetingFault::TooMany) => numbered(heap, 6, &[]),
-        PlanFault::Meetings(MeetingFault::Collision(clash)) => {
-            numbered(
-                heap,
-                5,
-                &[
-                    clash.lower.shuttle,
-                    clash.lower.stop,
-                    clash.other.shuttle,
-                    clash.other.stop,
-                ],
-            )
-        }
-        PlanFault::Meetings(MeetingFault::Memory) => String::from_str(heap, "no memory\n"),
+        PlanFault::File(FileFault::Torn(place)) => numbered(heap, number, &[place]),
+        PlanFault::Path(offence) => numbered(heap, number, &offence_values(offence)),
+        PlanFault::Meetings(MeetingFault::Collision(Clash { lower, other })) => numbered(
+            heap,
+            number,
+            &[lower.shuttle, lower.stop, other.shuttle, other.stop],
+        ),
+        _ => numbered(heap, number, &[]),
     }
 }
 
@@ -89,11 +88,7 @@ pub fn refusal_line(heap: Global, fault: PlanFault) -> Result<String, AllocError
 fn stop_total(paths: &[Path]) -> u128
     ensures { result ≡ sum_by length (paths_of paths.now) }
 {
-    let mut total: u128 = 0;
-    for path in paths {
-        total += path.stops.len() as u128;
-    }
-    total
+    paths.iter().map(|path| path.stops.len() as u128).sum()
 }
 
 // The numbers of shuttles, stops, tables and meetings.
@@ -104,8 +99,7 @@ pub fn counts_line(heap: Global, plan: &Plan) -> Result<String, AllocError>
     let stops = stop_total(plan.paths());
     let tables = plan.tables().len();
     let meetings = plan.meetings().len();
-    let text = format!(in heap; "plan {shuttles} {stops} {tables} {meetings}\n")?;
-    Ok(text)
+    format!(in heap; "plan {shuttles} {stops} {tables} {meetings}\n")
 }
 
 // A line for each path.
@@ -155,6 +149,5 @@ pub fn answer_text(heap: Global, answer: &Result<Plan, PlanFault>) -> Result<Str
 pub fn orders_line(heap: Global, meetings: usize, bytes: usize) -> Result<String, AllocError>
     ensures { IfOk result (λ t. string_bytes t ≡ orders_text meetings bytes) }
 {
-    let text = format!(in heap; "orders.bin: {meetings} meetings, {bytes} bytes\n")?;
-    Ok(text)
+    format!(in heap; "orders.bin: {meetings} meetings, {bytes} bytes\n")
 }

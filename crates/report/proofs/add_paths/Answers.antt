@@ -1,9 +1,9 @@
-use Rattle.std.proofs.Common.{◌≡◌, ◌<◌, [], ◌++◌, length, get_or, string_bytes, sym, ap, ◌∙◌, arith}
+use Rattle.std.proofs.Common.{◌≡◌, ◌<◌, [], length, get_or, sym, ap, ◌∙◌, arith}
 use Rattle.std.proofs.lemmas.List.{length-map}
 use Rattle.files.specs.Views.{path_of, paths_of}
 use Rattle.files.proofs.Paths.{path_read}
-use Rattle.report.specs.Texts.{path_text, path_texts}
-use Rattle.report.proofs.Lines.{lines_more, lines_all}
+use Rattle.report.specs.Texts.{path_text}
+use Rattle.report.proofs.Lines.{lines_more}
 use Rattle.report.proofs.add_paths.Goals as goal
 
 pub loop-shuttle-preserved : goal.loop-shuttle-preserved
@@ -14,9 +14,3 @@ loop-shuttle-preserved c =
     let here : get_or paths i [] ≡ path_of c.path-item.result = path_read items i c.path-item.result c.loop-shuttle-test.true c.path-item.is in
     let lt : i < length paths = omega (arith, length-map items path_of) in
     lines_more paths i _ c.as_str.result.now _ _ lt c.loop-shuttle.invariant (c.as_str.ensures.value ∙ c.in_ok-line.ensures ∙ ap (path_text i) (sym here)) c.in_ok-push_str.ensures.bytes
-
-pub returns : goal.returns
-returns c =
-    let items = c.paths-path-items.result.now in
-    lines_all (paths_of items) c.loop-shuttle.shuttle _ _ (omega (arith, length-map items path_of)) c.loop-shuttle.invariant
-    ∙ ap (λ ps. string_bytes c.args.text.now ++ path_texts 0 (paths_of ps)) c.paths-path-items.ensures

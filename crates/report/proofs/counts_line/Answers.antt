@@ -1,5 +1,6 @@
-use Rattle.std.proofs.Common.{◌≡◌, ℕ, List, ◌++◌, length, vec_items, codes, decimal, sum_by, sym, ap, ◌∙◌, append_assoc}
+use Rattle.std.proofs.Common.{◌≡◌, ℕ, List, ◌++◌, length, vec_items, IfOk, string_bytes, rules, codes, decimal, sum_by, sym, ap, ◌∙◌, append_assoc}
 use Rattle.std.proofs.lemmas.List.{length-map}
+use Rattle.std.proofs.lemmas.Result.{IfOk-weaker}
 use Rattle.files.specs.Views.{path_of, paths_of}
 use Rattle.report.specs.Texts.{spaced, end_line}
 use Rattle.report.proofs.counts_line.Goals as goal
@@ -18,4 +19,9 @@ returns c =
     let stops : c.stop_total-stops.result ≡ sum_by length (paths_of (vec_items plan.paths)) = c.stop_total-stops.ensures ∙ ap (λ ps. sum_by length (paths_of ps)) c.paths-2.ensures in
     let tables = ap length c.tables.ensures in
     let meetings = ap length c.meetings.ensures in
-    c.in_ok-text.ensures.ok ∙ pieces _ _ _ _ ∙ (λ i. codes "plan" ++ spaced (shuttles i) ++ spaced (stops i) ++ spaced (tables i) ++ spaced (meetings i) ++ end_line)
+    let a = decimal (length c.paths.result.now) in
+    let b = decimal c.stop_total-stops.result in
+    let d = decimal (length c.tables.result.now) in
+    let m = decimal (length c.meetings.result.now) in
+    let text : IfOk c.format.result (λ t. string_bytes t ≡ codes "plan " ++ (a ++ (codes " " ++ (b ++ (codes " " ++ (d ++ (codes " " ++ (m ++ end_line)))))))) = search rules in
+    IfOk-weaker c.format.result _ _ (λ t x. x ∙ pieces _ _ _ _ ∙ (λ i. codes "plan" ++ spaced (shuttles i) ++ spaced (stops i) ++ spaced (tables i) ++ spaced (meetings i) ++ end_line)) text

@@ -1,4 +1,5 @@
-use Rattle.std.proofs.Common.{◌≡◌, ℕ, List, ◌++◌, codes, decimal, ◌∙◌, append_assoc}
+use Rattle.std.proofs.Common.{◌≡◌, ℕ, List, ◌++◌, IfOk, string_bytes, rules, codes, decimal, ◌∙◌, append_assoc}
+use Rattle.std.proofs.lemmas.Result.{IfOk-weaker}
 use Rattle.report.specs.Texts.{end_line}
 use Rattle.report.proofs.orders_line.Goals as goal
 
@@ -7,4 +8,7 @@ regroup a b c d e f = simp append_assoc
 
 pub returns : goal.returns
 returns c =
-    c.in_ok-text.ensures.ok ∙ regroup (codes "orders.bin: ") (decimal c.args.meetings) (codes " meetings, ") (decimal c.args.bytes) (codes " bytes") end_line
+    let m = decimal c.args.meetings in
+    let b = decimal c.args.bytes in
+    let pieces : IfOk c.format.result (λ t. string_bytes t ≡ codes "orders.bin: " ++ (m ++ (codes " meetings, " ++ (b ++ (codes " bytes" ++ end_line))))) = search rules in
+    IfOk-weaker c.format.result _ _ (λ t e. e ∙ regroup (codes "orders.bin: ") m (codes " meetings, ") b (codes " bytes") end_line) pieces

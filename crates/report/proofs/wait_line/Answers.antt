@@ -1,4 +1,5 @@
-use Rattle.std.proofs.Common.{◌≡◌, ℕ, List, ◌++◌, codes, decimal, ◌∙◌, append_assoc}
+use Rattle.std.proofs.Common.{◌≡◌, ℕ, List, ◌++◌, IfOk, string_bytes, rules, codes, decimal, ◌∙◌, append_assoc}
+use Rattle.std.proofs.lemmas.Result.{IfOk-weaker}
 use Rattle.report.specs.Texts.{end_line}
 use Rattle.report.proofs.wait_line.Goals as goal
 
@@ -8,5 +9,9 @@ regroup a b c d e f g h i = simp append_assoc
 pub returns : goal.returns
 returns c =
     let w = c.args.wait.now in
-    c.in_ok-text.ensures.ok
-    ∙ regroup (codes "stop ") (decimal w.second.stop) (codes " of shuttle ") (decimal w.second.shuttle) (codes " waits for stop ") (decimal w.awaited.stop) (codes " of shuttle ") (decimal w.awaited.shuttle) end_line
+    let a = decimal w.second.stop in
+    let b = decimal w.second.shuttle in
+    let d = decimal w.awaited.stop in
+    let e = decimal w.awaited.shuttle in
+    let pieces : IfOk c.format.result (λ t. string_bytes t ≡ codes "stop " ++ (a ++ (codes " of shuttle " ++ (b ++ (codes " waits for stop " ++ (d ++ (codes " of shuttle " ++ (e ++ end_line)))))))) = search rules in
+    IfOk-weaker c.format.result _ _ (λ t x. x ∙ regroup (codes "stop ") a (codes " of shuttle ") b (codes " waits for stop ") d (codes " of shuttle ") e end_line) pieces
