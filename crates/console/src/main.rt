@@ -2,7 +2,6 @@
 #![tactic(auto)]
 
 use desk::{carry_out, refused};
-use lines::replies::{Reply, reply_line};
 use run::run::Run;
 use std::fs;
 use std::io::{BufRead, BufReader};
@@ -10,19 +9,12 @@ use std::io::{BufRead, BufReader};
 // The number of the console's run.
 const RUN: u32 = 1;
 
-fn print_reply(rt: &HostRuntime, reply: Reply) -> anyhow::Result<()> {
-    let text = reply_line(rt.alloc(), reply)?;
-    print!(rt; "{text}")?;
-    Ok(())
-}
-
 fn open(rt: &HostRuntime, run: &mut Run) -> anyhow::Result<()> {
-    let bytes = match fs::read(rt, "plan.bin") {
-        Ok(bytes) => bytes,
-        Err(_) => Vec::new(rt.alloc()),
-    };
-    if let Err(why) = run.open(rt.alloc(), RUN, bytes.as_slice()) {
-        print_reply(rt, refused(why))?;
+    let heap = rt.alloc();
+    let bytes = fs::read(rt, "plan.bin").unwrap_or_else(|_| Vec::new(heap));
+    if let Err(why) = run.open(heap, RUN, bytes.as_slice()) {
+        let reply = refused(why);
+        println!(rt; "{reply}")?;
     }
     Ok(())
 }
@@ -31,13 +23,14 @@ fn work(rt: &HostRuntime) -> anyhow::Result<()> {
     let mut run = Run::new();
     open(rt, &mut run)?;
     let mut input = BufReader::new(rt.alloc(), rt.stdin())?;
+    // A loop over input has to have an end that does not depend on it.
     for _ in 0..u64::MAX {
         let mut line = Vec::new(rt.alloc());
         if input.read_until(b'\n', &mut line)? == 0 {
             break;
         }
         let reply = carry_out(&mut run, line.as_slice());
-        print_reply(rt, reply)?;
+        println!(rt; "{reply}")?;
     }
     Ok(())
 }

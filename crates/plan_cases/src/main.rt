@@ -12,35 +12,10 @@ use orders::write::write_orders;
 use plans::plan::Plan;
 use plans::plan::opening::read_plan;
 use report::answer_text;
-use std::alloc::{AllocError, Global};
-
-fn digit(c: u8) -> u8 {
-    match c {
-        b'0'..=b'9' => c - b'0',
-        b'a'..=b'f' => c - b'a' + 10,
-        _ => 0,
-    }
-}
-
-// The bytes that pairs of digits write.
-fn unhex(heap: Global, digits: &[u8]) -> Result<Vec<u8>, AllocError> {
-    let mut bytes = Vec::new(heap);
-    for pair in digits.chunks(2) {
-        let [high, low] = pair else {
-            return Ok(bytes);
-        };
-        let value = u16::from(digit(*high)) * 16 + u16::from(digit(*low));
-        bytes.push((value & 0xff) as u8)?;
-    }
-    Ok(bytes)
-}
 
 fn print_hex(rt: &HostRuntime, bytes: &[u8]) -> anyhow::Result<()> {
-    for b in bytes {
-        let b = *b;
-        print!(rt; "{b:02x}")?;
-    }
-    println!(rt; "")?;
+    let digits = hex::encode(rt.alloc(), bytes)?;
+    println!(rt; "{digits}")?;
     Ok(())
 }
 
@@ -64,7 +39,7 @@ fn print_orders(rt: &HostRuntime, plan: &Plan, size: usize) -> anyhow::Result<()
 
 fn print_firsts(rt: &HostRuntime, plan: &Plan, digits: &[u8]) -> anyhow::Result<()> {
     let heap = rt.alloc();
-    let bytes = unhex(heap, digits)?;
+    let bytes = hex::decode(heap, digits)?;
     match read_orders(heap, plan, bytes.as_slice()) {
         Ok(firsts) => {
             print!(rt; "first")?;
@@ -84,24 +59,20 @@ fn print_firsts(rt: &HostRuntime, plan: &Plan, digits: &[u8]) -> anyhow::Result<
 // A plan file; answers the plan, if it is taken.
 fn print_plan(rt: &HostRuntime, digits: &[u8]) -> anyhow::Result<Option<Plan>> {
     let heap = rt.alloc();
-    let bytes = unhex(heap, digits)?;
+    let bytes = hex::decode(heap, digits)?;
     let answer = read_plan(heap, bytes.as_slice());
     let text = answer_text(heap, &answer)?;
     print!(rt; "{text}")?;
-    match answer {
-        Ok(plan) => Ok(Some(plan)),
-        Err(_) => Ok(None),
-    }
+    Ok(answer.ok())
 }
 
 fn number(digits: &[u8]) -> usize {
-    let mut n: usize = 0;
-    for d in digits {
-        if *d >= b'0' && *d <= b'9' {
-            n = n.saturating_mul(10).saturating_add(usize::from(*d - b'0'));
-        }
-    }
-    n
+    digits
+        .iter()
+        .filter_map(|digit| char::from(*digit).to_digit(10))
+        .fold(0, |n: usize, digit| {
+            n.saturating_mul(10).saturating_add(digit as usize)
+        })
 }
 
 fn on_plan(rt: &HostRuntime, plan: &Plan, line: &[u8]) -> anyhow::Result<()> {

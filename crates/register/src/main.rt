@@ -28,10 +28,7 @@ fn save_orders(rt: &HostRuntime, plan: &Plan) -> anyhow::Result<()> {
 
 fn work(rt: &HostRuntime) -> anyhow::Result<()> {
     let heap = rt.alloc();
-    let bytes = match fs::read(rt, "plan.bin") {
-        Ok(bytes) => bytes,
-        Err(_) => Vec::new(heap),
-    };
+    let bytes = fs::read(rt, "plan.bin").unwrap_or_else(|_| Vec::new(heap));
     let answer = read_plan(heap, bytes.as_slice());
     let text = answer_text(heap, &answer)?;
     print!(rt; "{text}")?;

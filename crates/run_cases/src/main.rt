@@ -21,7 +21,7 @@ use meetings::meet::First;
 use run::refusals::Refusal;
 use run::run::Run;
 use run::run::asks::EntryFault;
-use std::alloc::{AllocError, Global};
+use std::alloc::Global;
 
 // The number of every run.
 const RUN: u32 = 7;
@@ -34,27 +34,6 @@ const MEETINGS: usize = 256;
 struct Case {
     run: Run,
     file: Vec<u8>,
-}
-
-fn digit(c: u8) -> u8 {
-    match c {
-        b'0'..=b'9' => c - b'0',
-        b'a'..=b'f' => c - b'a' + 10,
-        _ => 0,
-    }
-}
-
-// The bytes that pairs of digits write.
-fn unhex(heap: Global, digits: &[u8]) -> Result<Vec<u8>, AllocError> {
-    let mut bytes = Vec::new(heap);
-    for pair in digits.chunks(2) {
-        let [high, low] = pair else {
-            return Ok(bytes);
-        };
-        let value = u16::from(digit(*high)) * 16 + u16::from(digit(*low));
-        bytes.push((value & 0xff) as u8)?;
-    }
-    Ok(bytes)
 }
 
 fn first_of(letter: u8) -> Option<First> {
@@ -98,21 +77,9 @@ fn has_plan(run: &Run) -> bool {
 }
 
 fn shuttle_count(run: &Run) -> usize {
-    for s in 0..usize::MAX {
-        if run.shuttle(s).is_none() {
-            return s;
-        }
-    }
-    usize::MAX
-}
-
-fn meeting_count(run: &Run) -> usize {
-    for j in 0..usize::MAX {
-        if run.first(j).is_none() {
-            return j;
-        }
-    }
-    usize::MAX
+    (0..usize::MAX)
+        .take_while(|s| run.shuttle(*s).is_some())
+        .count()
 }
 
 // The number of stops of a shuttle, by the contents of a plan file.
@@ -141,7 +108,7 @@ fn print_fault(rt: &HostRuntime, letter: &str, why: EntryFault) -> anyhow::Resul
 
 fn open(rt: &HostRuntime, case: &mut Case, digits: &str) -> anyhow::Result<()> {
     let heap = rt.alloc();
-    let bytes = unhex(heap, digits.as_bytes())?;
+    let bytes = hex::decode(heap, digits)?;
     match case.run.open(heap, RUN, bytes.as_slice()) {
         Ok(_) => {
             case.file = bytes;
@@ -172,26 +139,18 @@ fn tick(rt: &HostRuntime, run: &mut Run, rest: &str) -> anyhow::Result<()> {
 }
 
 fn print_shuttles(rt: &HostRuntime, run: &Run) -> anyhow::Result<()> {
-    for s in 0..shuttle_count(run) {
-        if let Some(one) = run.shuttle(s) {
-            let stop = one.stop;
-            let hold = one.hold;
-            print!(rt; " {stop}:{hold}")?;
-        }
+    for one in (0..usize::MAX).map_while(|s| run.shuttle(s)) {
+        print!(rt; " {}:{}", one.stop, one.hold)?;
     }
     Ok(())
 }
 
 fn print_firsts(rt: &HostRuntime, run: &Run) -> anyhow::Result<()> {
-    let count = meeting_count(run);
-    if count == 0 {
+    if run.first(0).is_none() {
         print!(rt; "-")?;
     }
-    for j in 0..count {
-        if let Some(first) = run.first(j) {
-            let letter = letter_of(first);
-            print!(rt; "{letter}")?;
-        }
+    for letter in (0..usize::MAX).map_while(|j| run.first(j)).map(letter_of) {
+        print!(rt; "{letter}")?;
     }
     Ok(())
 }
@@ -267,10 +226,9 @@ fn entry_ticks(rt: &HostRuntime, case: &Case, letters: &[u8]) -> anyhow::Result<
 
 fn open_meetings(rt: &HostRuntime, run: &Run) -> anyhow::Result<()> {
     print!(rt; "O")?;
-    for j in 0..meeting_count(run) {
-        if run.is_open(j) {
-            print!(rt; " {j}")?;
-        }
+    let met = (0..usize::MAX).take_while(|j| run.first(*j).is_some());
+    for j in met.filter(|j| run.is_open(*j)) {
+        print!(rt; " {j}")?;
     }
     println!(rt; "")?;
     Ok(())
@@ -291,10 +249,7 @@ fn lawful(rt: &HostRuntime, run: &Run, letters: &[u8]) -> anyhow::Result<()> {
 
 fn next_stop(rt: &HostRuntime, run: &Run, rest: &str) -> anyhow::Result<()> {
     match run.next_stop(rest.parse::<usize>()?) {
-        Some(at) => {
-            let stop = at.stop;
-            println!(rt; "N {stop}")?;
-        }
+        Some(at) => println!(rt; "N {}", at.stop)?,
         None => println!(rt; "N none")?,
     }
     Ok(())
