@@ -12,7 +12,7 @@ pub enum Command {
     Tick { standing: u32 },
 }
 
-// The command of a whole line, its end included; none where the line is bad.
+// The command of a whole line, its end included; none where the line is bad. It is no `TryFrom`: a bad line has no error to say more with.
 pub fn read_line(line: &[u8]) -> Option<Command>
     ensures value { result ≡ command_of line.now }
     ensures exact { ReadsExactly result line.now }

@@ -8,7 +8,7 @@
 use meetings::meet::First;
 use orders::read::read_orders;
 use orders::waits::plan_firsts;
-use orders::write::write_orders;
+use orders::write::{OrderFault, write_orders};
 use plans::plan::Plan;
 use plans::plan::opening::read_plan;
 use report::answer_text;
@@ -24,7 +24,7 @@ fn print_written(rt: &HostRuntime, plan: &Plan, out: &mut [u8]) -> anyhow::Resul
     let firsts = plan_firsts(rt.alloc(), plan)?;
     match write_orders(plan, firsts.as_slice(), out) {
         Ok(len) => print!(rt; "{len} bytes ")?,
-        Err(_) => print!(rt; "no 16 ")?,
+        Err(OrderFault::Short) => print!(rt; "no 16 ")?,
     }
     print_hex(rt, out)
 }
@@ -51,6 +51,7 @@ fn print_firsts(rt: &HostRuntime, plan: &Plan, digits: &[u8]) -> anyhow::Result<
             }
             println!(rt; "")?;
         }
+        // Want of memory is printed so too.
         Err(_) => println!(rt; "no order file of the plan")?,
     }
     Ok(())

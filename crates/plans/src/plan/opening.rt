@@ -20,6 +20,7 @@ pub enum PlanFault {
     Meetings(MeetingFault),
 }
 
+// The conversions are written out, since derived ones would not say in their contracts what comes of each fault.
 impl From<FileFault> for PlanFault {
     ghost from_gives = { λ e r. r ≡ File e };
 
@@ -45,7 +46,7 @@ impl From<MeetingFault> for PlanFault {
 }
 
 impl PlanFault {
-    // The number of a refusal; want of memory has none.
+    // The number of a refusal, as it is printed; want of memory has none. In the code the variants name the kinds.
     pub fn number(self) -> Option<u8>
         ensures { result ≡ refusal_number self }
     {
