@@ -7,7 +7,7 @@ use Rattle.std.proofs.lemmas.Bool.{cases_eq}
 use Rattle.traffic.specs.Scene.{Scene, at, rule}
 use Rattle.traffic.specs.Sweep.{Ready}
 use Rattle.traffic.proofs.Sweep.{sofar_advance, sofar_bound}
-use Rattle.floor.specs.Parts.{Known, Advanced}
+use Rattle.floor.specs.Known.{Known}
 use Rattle.floor.specs.Sweeps.{known_in, numbers_in}
 
 module _ (rows : List (List ℕ)) (s i v : ℕ) (lt : s < length rows) (wide : i < length (get_or rows s [])) where
@@ -80,18 +80,18 @@ module _ (c : Scene) (known : List ℕ) (rows : List (List ℕ)) (s i v : ℕ) (
     | inr ne ↦ put_other rows s (suc i) v rows_many row_wide r j ne ∙ k.none r j (omega (arith, known_other r ne, le))
   ]
 
-  pub known_advance : Advanced c known (set known s (suc i + 1)) (set rows s (set (get_or rows s []) (suc i) v))
+  pub known_advance : Known c (set known s (suc i + 1)) (set rows s (set (get_or rows s []) (suc i) v))
   known_advance = record {
-    keeps = record {
-      count = length-set known s (suc i + 1) ∙ k.count;
-      grid = record {
-        many = omega (arith, length-set known s (suc i + 1), length-set rows s (set (get_or rows s []) (suc i) v), k.grid.many);
-        wide = All-set _ rows s _ (length-set (get_or rows s []) (suc i) v ∙ All-get_or (λ (row : List ℕ). length row ≡ 64) rows s [] rows_many k.grid.wide) k.grid.wide;
-        within = All-set _ known s _ (omega (arith, wide)) k.grid.within;
-      };
-      sofar = sofar_advance c (known_in known) (known_in known') (numbers_in rows) (numbers_in rows') s i k.sofar here on ready known_here known_other kept (put_same rows s (suc i) v rows_many row_wide ∙ is);
-      none = none';
-      small = small';
+    count = length-set known s (suc i + 1) ∙ k.count;
+    grid = record {
+      many = omega (arith, length-set known s (suc i + 1), length-set rows s (set (get_or rows s []) (suc i) v), k.grid.many);
+      wide = All-set _ rows s _ (length-set (get_or rows s []) (suc i) v ∙ All-get_or (λ (row : List ℕ). length row ≡ 64) rows s [] rows_many k.grid.wide) k.grid.wide;
+      within = All-set _ known s _ (omega (arith, wide)) k.grid.within;
     };
-    more = omega (arith, total);
+    sofar = sofar_advance c (known_in known) (known_in known') (numbers_in rows) (numbers_in rows') s i k.sofar here on ready known_here known_other kept (put_same rows s (suc i) v rows_many row_wide ∙ is);
+    none = none';
+    small = small';
   }
+
+  pub more_known : sum known < sum (set known s (suc i + 1))
+  more_known = omega (arith, total)

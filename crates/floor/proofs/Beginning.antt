@@ -1,28 +1,17 @@
 -- The beginning and the end of a sweep.
-use Rattle.std.proofs.Common.{◌≡◌, ℕ, suc, ◌+◌, ◌-◌, ◌<◌, ◌≤◌, true, false, List, [], length, get_or, set, replicate, sum, sym, ap, ◌∙◌, inl, inr, arith}
+use Rattle.std.proofs.Common.{◌≡◌, ℕ, suc, ◌-◌, ◌<◌, ◌≤◌, true, false, List, [], length, get_or, replicate, sym, ap, ◌∙◌, inl, inr, arith}
 use Rattle.std.proofs.ByRecursion.{All-from_get_or}
-use Rattle.std.proofs.lemmas.List.{length-set, get_or-set_same, get_or-set_other, get_or-replicate, get_or_past, length-replicate}
-use Rattle.std.proofs.lemmas.Bool.{cases_eq, cases_lt}
+use Rattle.std.proofs.lemmas.List.{get_or-replicate, get_or_past, length-replicate}
+use Rattle.std.proofs.lemmas.Bool.{cases_lt}
 use Rattle.files.specs.declared.plan.Stop.{Stop}
 use Rattle.files.specs.Rules.{path_at}
 use Rattle.traffic.specs.Scene.{Scene, Numbers}
 use Rattle.traffic.specs.Sweep.{Timed}
 use Rattle.traffic.proofs.Sweep.{sofar_start, sofar_end, sofar_ring}
 use Rattle.floor.specs.declared.table.Shuttle.{Shuttle}
-use Rattle.floor.specs.Parts.{Known, Swept, Ended}
-use Rattle.floor.specs.Shuttles.{fresh, shuttle_at, stop_in}
-use Rattle.floor.specs.Sweeps.{Begun, Done, Worked, known_in, numbers_in}
-use Rattle.floor.proofs.Sweeps.{known_total}
-
-pub begun_more : (xs : List Shuttle) (n : ℕ) (known known' : List ℕ) → n < length known → Begun xs n known known' → Begun xs (n + 1) known (set known' n ((shuttle_at xs n).stop + 1))
-begun_more xs n known known' lt b = record {
-  count = length-set known' n _ ∙ b.count;
-  here = λ s l. elim (cases_eq s n) [
-    | inl e ↦ ap (known_in _) e ∙ get_or-set_same known' n _ 1 (omega (arith, lt, b.count)) ∙ omega arith ∙ ap (λ r. suc (stop_in xs r)) (sym e)
-    | inr ne ↦ get_or-set_other known' n s _ 1 ne ∙ b.here s (omega (arith, l, ne))
-  ];
-  there = λ s l. get_or-set_other known' n s _ 1 (λ e. omega (arith, e, l)) ∙ b.there s (omega (arith, l));
-}
+use Rattle.floor.specs.Known.{Known, Stuck}
+use Rattle.floor.specs.Shuttles.{stop_in, Entered}
+use Rattle.floor.specs.Sweeps.{Done, Worked, known_in, numbers_in}
 
 -- rows of nothing
 abbrev zeros : ℕ → List ℕ
@@ -40,31 +29,18 @@ rows_none n m s i = elim (cases_lt s n) [
   | inr g ↦ ap (λ (row : List ℕ). get_or row i 0) (get_or_past (replicate n (zeros m)) s [] (omega (arith, g, length-replicate n (zeros m))))
 ]
 
-one_known : (s : ℕ) → known_in (replicate 32 1) s ≡ 1
-one_known s = elim (cases_lt s 32) [
-  | inl l ↦ get_or-replicate 32 s 1 1 l
-  | inr g ↦ get_or_past (replicate 32 1) s 1 (omega (arith, g, length-replicate {A = ℕ} 32 1))
-]
-
-module _ (ps : List (List Stop)) (c : Scene) (xs : List Shuttle) (entered : (s : ℕ) → c.entered s ≡ stop_in xs s) (few : length xs ≤ 32)
-    (low : (s : ℕ) → stop_in xs s < 64) (within : (s : ℕ) → c.entered s ≤ c.last s) (known : List ℕ) (b : Begun xs (length xs) (replicate 32 1) known) where
-  known_is : (s : ℕ) → known_in known s ≡ suc (stop_in xs s)
-  known_is s = elim (cases_lt s (length xs)) [
-    | inl l ↦ b.here s l
-    | inr g ↦ b.there s g ∙ one_known s ∙ ap (λ (x : Shuttle). suc x.stop) (sym (get_or_past xs s fresh g))
-  ]
-
+module _ (c : Scene) (xs : List Shuttle) (entered : (s : ℕ) → c.entered s ≡ stop_in xs s) (low : (s : ℕ) → stop_in xs s < 64) (within : (s : ℕ) → c.entered s ≤ c.last s)
+    (known : List ℕ) (b : Entered xs known) where
   pub known_start : Known c known (replicate 32 (zeros 64))
   known_start =
-      let count : length known ≡ 32 = b.count ∙ length-replicate {A = ℕ} 32 1 in
       record {
-        count = count;
+        count = b.count;
         grid = record {
-          many = count ∙ sym (length-replicate 32 (zeros 64));
+          many = b.count ∙ sym (length-replicate 32 (zeros 64));
           wide = All-from_get_or (λ (row : List ℕ). length row ≡ 64) (replicate 32 (zeros 64)) [] (λ i l. ap (λ (row : List ℕ). length row) (get_or-replicate 32 i (zeros 64) [] (omega (arith, l, length-replicate 32 (zeros 64)))) ∙ length-replicate {A = ℕ} 64 0);
-          within = All-from_get_or (λ n. n ≤ 64) known 1 (λ i l. omega (arith, known_is i, low i));
+          within = All-from_get_or (λ n. n ≤ 64) known 1 (λ i l. omega (arith, b.each i, low i));
         };
-        sofar = sofar_start c (known_in known) (numbers_in (replicate 32 (zeros 64))) within (λ s. known_is s ∙ ap suc (sym (entered s))) (λ s i _. rows_none 32 64 s i);
+        sofar = sofar_start c (known_in known) (numbers_in (replicate 32 (zeros 64))) within (λ s. b.each s ∙ ap suc (sym (entered s))) (λ s i _. rows_none 32 64 s i);
         none = λ s i _. rows_none 32 64 s i;
         small = λ s i. omega (arith, rows_none 32 64 s i);
       }
@@ -84,14 +60,11 @@ module _ (ps : List (List Stop)) (c : Scene) (last : (s : ℕ) → c.last s ≡ 
     wide = k.grid.wide;
   }
 
-  pub ringed : Ended c (length ps) known rows → Done false ps known → (f : Numbers) → Timed c f → ⊥
-  ringed n d f t =
-      sofar_ring c (known_in known) (numbers_in rows) f d.0 n.keeps.sofar (omega (arith, last d.0, d.2))
+  pub ringed : Known c known rows → ((s : ℕ) → s < length ps → Stuck c known s) → Done false ps known → (f : Numbers) → Timed c f → ⊥
+  ringed k stuck d f t =
+      sofar_ring c (known_in known) (numbers_in rows) f d.0 k.sofar (omega (arith, last d.0, d.2))
       (λ r le ready. elim (cases_lt r (length ps)) [
-        | inl l ↦ n.stuck r l le ready
-        | inr g ↦ omega (arith, no_path r g, n.keeps.sofar.begun r, le)
+        | inl l ↦ stuck r l le ready
+        | inr g ↦ omega (arith, no_path r g, k.sofar.begun r, le)
       ])
       t
-
-pub swept_less : (c : Scene) (n : ℕ) (known known' : List ℕ) (rows' : List (List ℕ)) → Swept true c n known known' rows' → 2048 - sum known' < 2048 - sum known
-swept_less c n known known' rows' w = omega (arith, w.more, known_total c known' rows' w.keeps)

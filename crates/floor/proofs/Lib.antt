@@ -3,9 +3,11 @@ pub mod Arriving
 pub mod Beginning
 pub mod Calling
 pub mod Carrying
+pub mod Clearing
+pub mod Ending
+pub mod Floors
 pub mod Indexing
 pub mod Lookup
-pub mod Moving
 pub mod Nexts
 pub mod Opening
 pub mod Placing

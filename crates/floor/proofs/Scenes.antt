@@ -1,9 +1,7 @@
 -- Scenes of shuttle records, after ticks and with new holds.
 use Rattle.std.proofs.Common.{◌≡◌, ℕ, zero, suc, ◌+◌, ◌<◌, ◌≤◌, Bool, true, false, List, [], ◌∷◌, length, set, Option, sym, refl, ap, ◌∙◌, subst, ap₂, arith}
 use native.Mathlib.Decide.{dec_lt, ℕ_discrete}
-use Rattle.std.specs.List.{AllByRecursion}
-use Rattle.std.proofs.ByRecursion.{All-from_get_or, All-get_or}
-use Rattle.std.proofs.lemmas.List.{get_or_past, get_or-set_same, get_or-set_other, length-set}
+use Rattle.std.proofs.lemmas.List.{get_or_past, get_or-set_same, get_or-set_other, get_or-replicate, length-set, length-replicate}
 use Rattle.files.specs.declared.plan.Stop.{Stop}
 use Rattle.files.specs.Rules.{path_at}
 use Rattle.meetings.specs.declared.meet.First.{First}
@@ -13,7 +11,7 @@ use Rattle.traffic.specs.Scene.{tick}
 use Rattle.traffic.proofs.Ranking.{moved}
 use Rattle.floor.specs.declared.table.Shuttle.{Shuttle}
 use Rattle.floor.specs.Scenes.{scene, movers, after_tick, word_of_moved, Placed, AllPlaced}
-use Rattle.floor.specs.Shuttles.{fresh, all_fresh, shuttle_at, stop_in, hold_in, holding, step, stepped, CanStep}
+use Rattle.floor.specs.Shuttles.{fresh, all_fresh, shuttle_at, stop_in, hold_in, holding, step, stepped}
 use Rattle.floor.specs.Words.{bit}
 use Rattle.floor.proofs.Words.{word-bit}
 
@@ -113,17 +111,11 @@ placed_hold ps xs s ticks placed lt ahead few = record {
     here = record { on = omega arith; short = few; home = λ e. absurd (omega arith) }
 
 fresh_at : (n s : ℕ) → shuttle_at (all_fresh n) s ≡ fresh
-fresh_at zero s = refl
-fresh_at (suc n) zero = refl
-fresh_at (suc n) (suc s) = fresh_at n s
-
-length-fresh : (n : ℕ) → length (all_fresh n) ≡ n
-length-fresh zero = refl
-length-fresh (suc n) = ap suc (length-fresh n)
+fresh_at n s = elim (dec_lt s n) [ yes d ↦ get_or-replicate n s fresh fresh d | no d ↦ get_or_past (all_fresh n) s fresh (omega (arith, length-replicate n fresh)) ]
 
 pub placed_fresh : (ps : List (List Stop)) → ((s : ℕ) → s < length ps → 1 ≤ length (path_at ps s)) → AllPlaced ps (all_fresh (length ps))
 placed_fresh ps some = record {
-  count = length-fresh (length ps);
+  count = length-replicate (length ps) fresh;
   each = λ s lt. subst (Placed (path_at ps s)) (sym (fresh_at (length ps) s)) (record { on = some s lt; short = omega arith; home = λ e. refl });
 }
 
@@ -142,7 +134,3 @@ pub hold_scene :
     (ps : List (List Stop)) (orders : List (Option First)) (xs : List Shuttle) (s ticks : ℕ)
     → scene ps orders (set xs s (holding ticks (shuttle_at xs s))) ≡ with_holds (scene ps orders xs) (hold_in (set xs s (holding ticks (shuttle_at xs s))))
 hold_scene ps orders xs s ticks i = scene_of ps orders (λ r. hold_stops xs s ticks r i) (hold_in (set xs s (holding ticks (shuttle_at xs s))))
-
-pub can_step : (ps : List (List Stop)) (xs : List Shuttle) → AllPlaced ps xs → AllByRecursion (λ p. length p ≤ 64) ps → CanStep xs
-can_step ps xs placed short =
-    All-from_get_or _ xs fresh (λ s lt. let n : s < length ps = omega (arith, placed.count) in omega (arith, (placed.each s n).on, All-get_or (λ p. length p ≤ 64) ps s [] n short))

@@ -1,9 +1,10 @@
 -- What an opened plan and its floor keep.
-use Rattle.std.proofs.Common.{◌≡◌, ℕ, ◌<◌, ◌≤◌, Bool, true, false, cond, List, [], ◌∷◌, length, Some, None, Option, sym, subst, arith}
+use Rattle.std.proofs.Common.{◌≡◌, ℕ, ◌<◌, ◌≤◌, Bool, true, false, cond, List, [], ◌∷◌, length, Some, None, IfSome, Option, sym, subst, arith}
 use mathlib.Core.HLevel.{×_prop}
 use mathlib.Core.Logic.{∥∥₁_elim}
 use native.Mathlib.Bridge.{le_prop}
 use Rattle.std.specs.List.{AllByRecursion}
+use Rattle.std.specs.Option.{option_to_list}
 use Rattle.std.proofs.ByRecursion.{All-from_get_or, All-get_or, has_get_or}
 use Rattle.files.specs.declared.plan.Stop.{Stop}
 use Rattle.files.specs.Bytes.{PathFits}
@@ -25,6 +26,11 @@ use Rattle.floor.proofs.Sets.{meetings_prop}
 pub one_awaited : (P : At → Type 0) (b : Bool) (a : At) → P a → AllByRecursion P (cond b (a ∷ []) [])
 one_awaited P true a p = (p, tt)
 one_awaited P false a p = tt
+
+-- of an option that is listed
+pub shown_one : {X : Type 0} (P : X → Type 0) (o : Option X) → AllByRecursion P (option_to_list o) → IfSome o P
+shown_one P None h = tt
+shown_one P (Some x) h = h.0
 
 module _ (ps : List (List Stop)) (ts : List ℕ) (ms : List Meeting) where
   pub listed_of : ∥ Kept ps ts ms ∥₁ → ms ≡ meetings ps

@@ -1,6 +1,5 @@
 -- The greatest entry tick that is waited for.
-use Rattle.std.proofs.Common.{◌≡◌, ℕ, zero, suc, ◌+◌, ◌<◌, ◌≤◌, max, List, [], ◌∷◌, ◌++◌, map, length, get_or, take, Some, Option, sym, ap, ◌∙◌, subst, arith}
-use Rattle.std.specs.Option.{option_to_list}
+use Rattle.std.proofs.Common.{◌≡◌, ℕ, zero, suc, ◌+◌, ◌<◌, max, List, [], ◌∷◌, ◌++◌, map, length, get_or, take, Some, Option, sym, ap, ◌∙◌, subst, arith}
 use Rattle.std.specs.List.{AllByRecursion}
 use Rattle.std.proofs.ByRecursion.{All-append}
 use Rattle.std.proofs.lemmas.List.{get_or_default, take_more, append-nil}
@@ -16,18 +15,6 @@ use Rattle.floor.specs.Sweeps.{Later, known_in}
 
 pub known_read : (known : List ℕ) (s : ℕ) → s < length known → get_or known s 0 ≡ known_in known s
 known_read known s lt = get_or_default known s 0 1 lt
-
-pub listed_one : {X : Type 0} (P : X → Type 0) (o : Option X) (x : X) → o ≡ Some x → AllByRecursion P (option_to_list o) → P x
-listed_one P o x e h = (subst (λ (p : Option _). AllByRecursion P (option_to_list p)) e h).0
-
-module _ (known : List ℕ) (other : Option At) (a : At) (is : other ≡ Some a) (lt : a.shuttle < length known) where
-  pub later_not : get_or known a.shuttle 0 ≤ a.stop → Ready (known_in known) (option_to_list other) → ⊥
-  later_not le r = let k : a.stop < known_in known a.shuttle = listed_one (λ b. b.stop < known_in known b.shuttle) other a is r in omega (arith, k, le, known_read known a.shuttle lt)
-
-  pub later_is : (e : Numbers) (m n : ℕ) → a.stop < get_or known a.shuttle 0 → n ≡ max m (number e a) → Later (Some n) m (known_in known) e (option_to_list other)
-  later_is e m n k p =
-      subst (λ (o : Option At). Later (Some n) m (known_in known) e (option_to_list o)) (sym is)
-      ((omega (arith, k, known_read known a.shuttle lt), tt), p ∙ omega arith)
 
 greatest-append : (e : Numbers) (l k : List At) → greatest (map (number e) (l ++ k)) ≡ max (greatest (map (number e) l)) (greatest (map (number e) k))
 greatest-append e [] k = omega arith

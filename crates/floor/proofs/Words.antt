@@ -1,17 +1,20 @@
 -- A word names just those shuttles of which it was made.
-use Rattle.std.proofs.Common.{◌≡◌, ℕ, zero, suc, ◌+◌, ◌-◌, ◌*◌, ◌/◌, ◌%◌, ◌^◌, ◌<◌, ◌≤◌, Bool, true, false, cond, eqb, ap, ◌∙◌, subst, add-one, arith}
+use Rattle.std.proofs.Common.{◌≡◌, ℕ, zero, suc, ◌+◌, ◌-◌, ◌*◌, ◌/◌, ◌%◌, ◌^◌, ◌<◌, ◌≤◌, Bool, true, false, cond, not, eqb, MatchBool, refl, ap, ◌∙◌, subst, arith}
 use native.Mathlib.Decide.{dec_lt}
 use native.Mathlib.Nat.{two-pow-succ, pow-le-pow_right, div-eq_of_lt, add-mul-div_right, add-mul-mod_self_right}
-use Rattle.std.proofs.lemmas.Nat.{pow_pos, pow-add}
-use Rattle.std.proofs.lemmas.Bool.{cond_both}
+use Rattle.std.proofs.lemmas.Nat.{one_shl, pow_pos, pow-add, shr_split, mod_below}
+use Rattle.std.proofs.lemmas.Bool.{cond_both, eqb-true, eqb-false}
 use Rattle.floor.specs.Words.{bit, word_of}
-
-pub word_more : (named : ℕ → Bool) (k : ℕ) → word_of named (k + 1) ≡ word_of named k + cond (named k) (2 ^ k) 0
-word_more named k = ap (word_of named) (add-one k)
 
 pub word_below : (named : ℕ → Bool) (n : ℕ) → word_of named n < 2 ^ n
 word_below named zero = omega arith
 word_below named (suc n) = cond_both (named n) (2 ^ n) 0 (λ x. word_of named n + x < 2 ^ suc n) (λ _. omega (arith, word_below named n, two-pow-succ n)) (λ _. omega (arith, word_below named n, two-pow-succ n))
+
+-- one bit more fits
+pub word_room : (named : ℕ → Bool) (w k : ℕ) → w ≡ word_of named k → k < 32 → w + 1 * 2 ^ k % 2 ^ 32 < 2 ^ 32
+word_room named w k is lt =
+    let wide : 2 ^ suc k ≤ 2 ^ 32 = pow-le-pow_right (omega arith) lt in
+    omega (arith, is, word_below named k, one_shl k 32 lt, two-pow-succ k, wide)
 
 pub bit_past : (w n s : ℕ) → w < 2 ^ n → n ≤ s → bit w s ≡ false
 bit_past w n s lt le =
@@ -51,3 +54,11 @@ word-bit named (suc n) s lt = elim (dec_lt s n) [ yes d ↦ lower d (named n) �
     here : (b : Bool) → bit (word_of named n + cond b (2 ^ n) 0) n ≡ b
     here true = bit_here (word_of named n) n (word_below named n)
     here false = none n ∙ word_past named n n (omega arith)
+
+-- a shift tells whether a word names a number that is not below n
+pub word_over : (w n : ℕ) → MatchBool (not (eqb (w / 2 ^ n) 0)) (2 ^ n ≤ w) (w < 2 ^ n)
+word_over w n = go (eqb (w / 2 ^ n) 0) refl
+  where
+    go : (b : Bool) → eqb (w / 2 ^ n) 0 ≡ b → MatchBool (not b) (2 ^ n ≤ w) (w < 2 ^ n)
+    go true e = omega (arith, shr_split w n, ap (λ (x : ℕ). x * 2 ^ n) (eqb-true (w / 2 ^ n) 0 e), mod_below w (2 ^ n) (pow_pos n))
+    go false e = elim (dec_lt w (2 ^ n)) [ yes d ↦ absurd (eqb-false (w / 2 ^ n) 0 e (div-eq_of_lt d)) | no d ↦ omega arith ]

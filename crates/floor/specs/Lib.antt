@@ -2,10 +2,9 @@ pub mod Arrivals
 pub mod Calls
 pub mod Floors
 pub mod Indexes
-pub mod Moves
+pub mod Known
 pub mod Next
 pub mod Open
-pub mod Parts
 pub mod Scenes
 pub mod Shuttles
 pub mod Standing

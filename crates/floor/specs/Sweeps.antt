@@ -1,13 +1,11 @@
 -- Entry ticks as they are worked out: what is known so far, in lists.
-use Rattle.std.specs.Prelude.{◌≡◌, ℕ, suc, ◌<◌, ◌≤◌, max, Bool, true, false, List, [], map, length, Some, None, Option, slice_index, slice_index_or}
+use Rattle.std.specs.Prelude.{◌≡◌, ℕ, ◌<◌, ◌≤◌, max, Bool, true, false, List, [], map, length, Some, None, Option, slice_index, slice_index_or}
 use Rattle.std.specs.List.{AllByRecursion}
 use Rattle.files.specs.declared.plan.Stop.{Stop}
 use Rattle.files.specs.Rules.{path_at}
 use Rattle.meetings.specs.declared.stays.At.{At}
 use Rattle.traffic.specs.Scene.{Scene, Numbers, number, greatest}
 use Rattle.traffic.specs.Sweep.{Ready, Timed}
-use Rattle.floor.specs.declared.table.Shuttle.{Shuttle}
-use Rattle.floor.specs.Shuttles.{stop_in}
 
 -- the number of a stop in a list of rows, 0 beyond them
 abbrev pub numbers_in : List (List ℕ) → Numbers
@@ -27,12 +25,6 @@ pub record Grid (known : List ℕ) (rows : List (List ℕ)) : Type 0 where
 abbrev pub Later : Option ℕ → ℕ → (ℕ → ℕ) → Numbers → List At → Type 0
 Later (Some n) tick known e l = Ready known l × (n ≡ max tick (greatest (map (number e) l)))
 Later None tick known e l = Ready known l → ⊥
-
--- the stops that the first n shuttles have entered are known, and no others than before
-pub record Begun (xs : List Shuttle) (n : ℕ) (known known' : List ℕ) : Type 0 where
-  pub count : length known' ≡ length known
-  pub here : (s : ℕ) → s < n → known_in known' s ≡ suc (stop_in xs s)
-  pub there : (s : ℕ) → n ≤ s → known_in known' s ≡ known_in known s
 
 -- every stop of every path is known, or some are not
 abbrev pub Done : Bool → List (List Stop) → List ℕ → Type 0

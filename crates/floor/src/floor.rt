@@ -10,6 +10,7 @@ use plans::plan::Plan;
 
 pub mod asks;
 pub mod calls;
+mod stops;
 
 // A plan with its index, and a record for each of its shuttles, which is on its path.
 #[derive(Drop)]

@@ -4,6 +4,5 @@
 pub mod entry;
 pub mod floor;
 pub mod index;
-mod moves;
-mod next;
+mod scene;
 pub mod table;

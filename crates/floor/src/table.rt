@@ -1,8 +1,9 @@
 // The shuttles of a run: the last stop that each has entered, and its hold.
-ghost use Rattle.std.specs.Prelude.{◌≡◌, ℕ, ◌+◌, ◌<◌, ◌≤◌, length, IfOk, slice_set};
-ghost use Rattle.floor.specs.Shuttles.{shuttle_at, all_fresh, holding, CanStep, stepped};
+ghost use Rattle.std.specs.Prelude.{◌≡◌, ◌+◌, ◌^◌, ◌<◌, ◌≤◌, length, if◌then◌else◌, IfOk, MatchBool, nat_eq, slice_get, slice_set};
+ghost use Rattle.floor.specs.Shuttles.{shuttle_at, all_fresh, holding, step, CanStep, stepped, Entered};
 ghost use Rattle.floor.specs.Words.{bit};
 
+use crate::entry::SHUTTLES;
 use std::alloc::{AllocError, Global};
 
 // The last stop entered, and the hold ticks left.
@@ -26,29 +27,76 @@ pub(crate) fn names(word: u32, shuttle: usize) -> bool
     (word >> shuttle) % 2 == 1
 }
 
+// Whether a word names a shuttle that is not below a count.
+pub(crate) fn too_many(standing: u32, count: usize) -> bool
+    requires { count ≤ 32 }
+    ensures { MatchBool result (2 ^ count ≤ standing) (standing < 2 ^ count) }
+{
+    count < 32 && standing >> count != 0
+}
+
+impl Shuttle {
+    // The shuttle after a tick, by whether it moves: a hold above 0 falls by one.
+    fn after_tick(self, moves: bool) -> Shuttle
+        requires { self.stop < 65536 }
+        ensures { result ≡ step moves self }
+    {
+        Shuttle {
+            stop: self.stop + usize::from(moves),
+            hold: self.hold.saturating_sub(1),
+        }
+    }
+
+    // The entry tick of a stop, with the hold added if it is the last stop that the shuttle has entered.
+    pub(crate) fn own_tick(self, stop: usize, tick: u32) -> u32
+        requires { tick < 2 ^ 31 }
+        ensures tick { result ≡ tick + (if nat_eq stop self.stop then self.hold else 0) }
+        ensures most { result ≤ tick + self.hold }
+    {
+        if stop == self.stop {
+            tick + u32::from(self.hold)
+        } else {
+            tick
+        }
+    }
+}
+
 impl Shuttles {
     // All at stop 0, without holds.
     pub(crate) fn fresh(heap: Global, count: usize) -> Result<Shuttles, AllocError>
         ensures { IfOk result (λ t. t.records.items ≡ all_fresh count) }
     {
-        let mut records = Vec::new(heap);
-        for _ in 0..count {
-            records.push(Shuttle { stop: 0, hold: 0 })?;
-        }
-        Ok(Shuttles { records })
+        Ok(Shuttles {
+            records: vec![in heap; Shuttle { stop: 0, hold: 0 }; count]?,
+        })
     }
 
-    pub(crate) fn len(&self) -> usize
-        ensures { result ≡ length self.now.records.items }
+    // The record of a shuttle, if there is one.
+    pub(crate) fn get(&self, shuttle: usize) -> Option<Shuttle>
+        ensures { result ≡ slice_get self.now.records.items shuttle }
     {
-        self.records.len()
+        self.records.get(shuttle).copied()
     }
 
-    pub(crate) fn get(&self, shuttle: usize) -> Shuttle
+    // The record of a shuttle that there is.
+    pub(crate) fn at(&self, shuttle: usize) -> Shuttle
         requires { shuttle < length self.now.records.items }
         ensures { result ≡ shuttle_at self.now.records.items shuttle }
     {
         self.records[shuttle]
+    }
+
+    // How many stops each shuttle has entered: 1, if there is no such shuttle.
+    pub(crate) fn entered(&self) -> [usize; SHUTTLES]
+        requires few { length self.now.records.items ≤ 32 }
+        requires fits { CanStep self.now.records.items }
+        ensures { Entered self.now.records.items result }
+    {
+        let mut entered = [1; SHUTTLES];
+        for (shuttle, one) in self.records.iter().enumerate() {
+            entered[shuttle] = one.stop + 1;
+        }
+        entered
     }
 
     // Replaces the hold of one shuttle.
@@ -56,9 +104,7 @@ impl Shuttles {
         requires { shuttle < length self.old.records.items }
         ensures { self.new.records.items ≡ slice_set self.old.records.items shuttle (holding ticks (shuttle_at self.old.records.items shuttle)) }
     {
-        let mut one = self.records[shuttle];
-        one.hold = ticks;
-        self.records[shuttle] = one;
+        self.records[shuttle].hold = ticks;
     }
 
     // The shuttles that a word names enter their next stops, and every hold above 0 falls by one.
@@ -67,13 +113,8 @@ impl Shuttles {
         requires fits { CanStep self.old.records.items }
         ensures { self.new.records.items ≡ stepped (bit moved) 0 self.old.records.items }
     {
-        for shuttle in 0..self.records.len() {
-            let mut one = self.records[shuttle];
-            if names(moved, shuttle) {
-                one.stop += 1;
-            }
-            one.hold = one.hold.saturating_sub(1);
-            self.records[shuttle] = one;
+        for (shuttle, one) in self.records.iter_mut().enumerate() {
+            *one = one.after_tick(names(moved, shuttle));
         }
     }
 }

@@ -10,7 +10,6 @@ ghost use Rattle.floor.specs.Shuttles.{shuttle_at};
 
 use super::Floor;
 use crate::entry::{Ring, SHUTTLES};
-use crate::next::{next_stop, stop_count};
 use crate::table::Shuttle;
 use meetings::meet::{First, Meeting};
 use meetings::stays::At;
@@ -20,22 +19,18 @@ impl Floor {
     pub fn shuttle(&self, shuttle: usize) -> Option<Shuttle>
         ensures { result ≡ (if nat_lt shuttle (length (paths_in self.now)) then Some (shuttle_at (records_in self.now) shuttle) else None) }
     {
-        if shuttle < self.shuttles.len() {
-            Some(self.shuttles.get(shuttle))
-        } else {
-            None
-        }
+        self.shuttles.get(shuttle)
     }
 
-    // The entry tick of each shuttle's last stop under orders, of which some may be left out.
+    // The entry tick of each shuttle's last stop under orders, of which some may be left out; in an array, since arrivals allocate no memory.
     pub fn arrivals(&self, orders: &[Option<First>]) -> Result<[u32; SHUTTLES], Ring>
         ensures { MatchResult result (Arrivals (scene_in self.now orders.now) (length (paths_in self.now))) (λ _. (e : Numbers) → Timed (scene_in self.now orders.now) e → ⊥) }
     {
         let ticks = self.entry_ticks(orders)?;
         let mut arrivals = [0; SHUTTLES];
-        for shuttle in 0..self.plan.paths().len() {
-            let last = stop_count(&self.plan, shuttle) - 1;
-            arrivals[shuttle] = ticks[shuttle][last];
+        // The range is of shuttle numbers: each names a path, and a row in both arrays.
+        for shuttle in 0..self.count() {
+            arrivals[shuttle] = ticks[shuttle][self.stop_count(shuttle) - 1];
         }
         Ok(arrivals)
     }
@@ -45,10 +40,7 @@ impl Floor {
         requires { StopOf (paths_in self.now) at }
         ensures { MatchBool result (IsAhead self.now at) (IsAhead self.now at → ⊥) }
     {
-        match next_stop(&self.plan, at) {
-            None => false,
-            Some(_) => self.shuttles.get(at.shuttle).stop < at.stop,
-        }
+        self.after(at).is_some() && self.state(at.shuttle).stop < at.stop
     }
 
     // The place of a stop.
@@ -79,11 +71,9 @@ impl Floor {
     pub fn is_open(&self, meeting: usize) -> bool
         ensures { MatchBool result (IsOpen self.now meeting) (IsOpen self.now meeting → ⊥) }
     {
-        let meetings = self.plan.meetings();
-        if meeting >= meetings.len() {
+        let Some(one) = self.plan.meetings().get(meeting) else {
             return false;
-        }
-        let one = meetings[meeting];
-        self.both_ahead(one) && !self.is_table(self.place(one.lower))
+        };
+        self.both_ahead(*one) && !self.is_table(self.place(one.lower))
     }
 }

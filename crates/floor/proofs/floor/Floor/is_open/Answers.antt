@@ -1,47 +1,32 @@
-use Rattle.std.proofs.Common.{◌≡◌, ◌<◌, List, length, vec_items, MatchBool, sym, ap, ◌∙◌, subst, arith}
-use Rattle.std.specs.List.{ContainsAt}
+use Rattle.std.proofs.Common.{◌≡◌, ◌<◌, List, length, vec_items, sym, ap, ◌∙◌, subst, arith}
 use Rattle.meetings.specs.declared.meet.Meeting.{Meeting}
-use Rattle.meetings.specs.Laws.{StopOf, stop_of}
-use Rattle.traffic.specs.Index.{meeting_at}
-use Rattle.floor.specs.Floors.{IsAhead, paths_in, records_in}
+use Rattle.meetings.specs.Laws.{StopOf}
+use Rattle.traffic.specs.Index.{no_meeting, meeting_at}
+use Rattle.floor.specs.Floors.{paths_in, records_in}
 use Rattle.floor.proofs.Opening.{open_when}
 use Rattle.floor.proofs.Sound.{lower_stop, other_stop}
 use Rattle.floor.proofs.floor.Floor.is_open.Goals as goal
-use Rattle.floor.proofs.floor.Floor.is_open.Goals.{Else-meeting-meetings}
+use Rattle.floor.proofs.floor.Floor.is_open.Goals.{In-Some}
 
--- the meeting is one of the plan's, and so are its stops
-there : (c : Else-meeting-meetings) → c.args.meeting < length (vec_items c.args.self.now.plan.meetings)
-there c = omega (arith, c.if-meeting-meetings.false, ap (λ (l : List Meeting). length l) c.meetings-meetings.ensures)
+-- the meeting is one of the plan's
+within : (c : In-Some) → c.args.meeting < length (vec_items c.args.self.now.plan.meetings)
+within c = omega (arith, c.in-Some.ensures.lookup.3.0, ap (λ (l : List Meeting). length l) c.meetings.ensures)
 
-lower : (c : Else-meeting-meetings) → StopOf (paths_in c.args.self.now) (meeting_at c.meetings-meetings.result.now c.args.meeting).lower
-lower c =
-    let f = c.args.self.now in
-    let p = f.plan in
-    subst (λ (l : List Meeting). StopOf (paths_in f) (meeting_at l c.args.meeting).lower) (sym c.meetings-meetings.ensures)
-    (lower_stop (paths_in f) (vec_items p.tables) (vec_items p.meetings) p.sound c.args.meeting (there c))
-
-other : (c : Else-meeting-meetings) → StopOf (paths_in c.args.self.now) (meeting_at c.meetings-meetings.result.now c.args.meeting).other
-other c =
-    let f = c.args.self.now in
-    let p = f.plan in
-    subst (λ (l : List Meeting). StopOf (paths_in f) (meeting_at l c.args.meeting).other) (sym c.meetings-meetings.ensures)
-    (other_stop (paths_in f) (vec_items p.tables) (vec_items p.meetings) p.sound c.args.meeting (there c))
+is : (c : In-Some) → meeting_at (vec_items c.args.self.now.plan.meetings) c.args.meeting ≡ c.in-Some.one.now
+is c = ap (λ (l : List Meeting). meeting_at l c.args.meeting) (sym c.meetings.ensures) ∙ sym (c.in-Some.ensures.lookup.3.1 no_meeting)
 
 pub both_ahead-requires : goal.both_ahead-requires
-both_ahead-requires c = let at = (goal.at.both_ahead-requires c).Else-meeting-meetings in record { lower = lower at; other = other at }
-
-pub place-requires : goal.place-requires
-place-requires c = lower (goal.at.place-requires c).Else-meeting-meetings
+both_ahead-requires c =
+    let p = c.args.self.now.plan in
+    let ps = paths_in c.args.self.now in
+    let here = (goal.at.both_ahead-requires c).In-Some in
+    record {
+      lower = subst (λ (m : Meeting). StopOf ps m.lower) (is here) (lower_stop ps (vec_items p.tables) (vec_items p.meetings) p.sound c.args.meeting (within here));
+      other = subst (λ (m : Meeting). StopOf ps m.other) (is here) (other_stop ps (vec_items p.tables) (vec_items p.meetings) p.sound c.args.meeting (within here));
+    }
 
 pub returns-then-both_ahead : goal.returns-then-both_ahead
 returns-then-both_ahead c =
     let f = c.args.self.now in
-    let ms = vec_items f.plan.meetings in
-    let ts = vec_items f.plan.tables in
-    let j = c.args.meeting in
-    let table = c.is_table.result in
-    let is = c.meetings-meetings.ensures in
-    let place : c.place.result ≡ (stop_of (paths_in f) (meeting_at ms j).lower).place = c.place.ensures ∙ ap (λ (l : List Meeting). (stop_of (paths_in f) (meeting_at l j).lower).place) is in
-    open_when (paths_in f) ts (records_in f) ms j (there (goal.at.returns-then-both_ahead c).Else-meeting-meetings) table
-    (subst (λ (l : List Meeting). IsAhead f (meeting_at l j).lower × IsAhead f (meeting_at l j).other) is c.if-both_ahead.ensures)
-    (subst (λ n. MatchBool table (ContainsAt ts n) (ContainsAt ts n → ⊥)) place c.is_table.ensures)
+    let here = (goal.at.returns-then-both_ahead c).In-Some in
+    open_when (paths_in f) (vec_items f.plan.tables) (records_in f) (vec_items f.plan.meetings) c.args.meeting (within here) c.in-Some.one.now c.is_table.result c.place.result (is here) c.if-both_ahead.ensures c.place.ensures c.is_table.ensures

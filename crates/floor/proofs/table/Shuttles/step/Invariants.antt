@@ -4,4 +4,4 @@ use Rattle.floor.proofs.Tables.{stepped_to}
 use Rattle.floor.proofs.table.Shuttles.step.Given as goal
 
 abbrev pub invariant-loop-shuttle : goal.invariant-loop-shuttle
-invariant-loop-shuttle l = vec_items l.self.records ≡ stepped_to (bit l.moved) 0 l.shuttle (vec_items l.initial.self.records)
+invariant-loop-shuttle l = l.one-items ≡ stepped_to (bit l.moved) 0 l.shuttle (vec_items l.fn.self.records)

@@ -1,5 +1,0 @@
-use Rattle.floor.proofs.Moving.{word_over}
-use Rattle.floor.proofs.moves.too_many.Goals as goal
-
-pub returns-then-count-lt32 : goal.returns-then-count-lt32
-returns-then-count-lt32 c = word_over c.args.standing c.args.count
