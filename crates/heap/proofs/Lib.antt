@@ -1,4 +1,6 @@
 pub mod Firsts
+pub mod Holdings
+pub mod Orders
 pub mod Parts
 pub mod Rows
 pub mod Sifts

@@ -1,3 +1,4 @@
+pub mod Bounded
 pub mod Calls
 pub mod Heaps
 pub mod Laws

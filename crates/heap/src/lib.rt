@@ -2,13 +2,15 @@
 #![tactic(auto)]
 
 ghost use Rattle.std.specs.Prelude.{IsTrue};
-ghost use Rattle.heap.specs.Laws.{OrdersAreReflexive, SortsAscend, SortsKeepElements, RowsAreUnique, InsertsAscend, InsertsAddOne, InsertsAtPlace, PlacesDivide, FirstsAreLeast};
+ghost use Rattle.heap.specs.Laws.{ComparisonsOrder, OrdersAreReflexive, SortsAscend, SortsKeepElements, RowsAreUnique, InsertsAscend, InsertsAddOne, InsertsAtPlace, PlacesDivide, FirstsAreLeast};
 
+pub mod bounded;
 pub mod heap;
 pub mod order;
 
 // The row of some elements: the one ascending list of them, and what an insertion does to it.
 pub fn rows_stand<T>() -> bool
+    ensures ordered { ComparisonsOrder T }
     ensures reflexive { OrdersAreReflexive T }
     ensures ascends { SortsAscend T }
     ensures same { SortsKeepElements T }

@@ -5,91 +5,60 @@
 // A call that finds the heap full prints "full", and one that finds it empty "none".
 #![tactic(auto)]
 
-ghost use Rattle.std.specs.Prelude.{◌≡◌, ◌-◌, IfOk};
-ghost use Rattle.heap_cases.specs.Numbers.{numbered_le, Holds};
+ghost use Rattle.std.specs.Prelude.{◌≡◌, ◌<◌, true, length, IfOk};
 ghost use Rattle.std.proofs.Common.{rules};
 
-use heap::heap::{put, take_first};
+use heap::bounded::BoundedHeap;
 use heap::order::TotalOrder;
 
-#[derive(Clone, Copy)]
+// By the number, then by the place.
+#[derive(Clone, Copy, PartialEq, Eq, PartialOrd, Ord)]
 struct Numbered {
     key: u32,
     place: u32,
 }
 
 impl TotalOrder for Numbered {
-    ghost le = { numbered_le };
-
-    ghost total = { Prim.search rules };
-
-    ghost transitive = { Prim.search rules };
-
     ghost antisymmetric = { Prim.search rules };
-
-    fn no_later(&self, other: &Numbered) -> bool {
-        if self.key != other.key {
-            return self.key < other.key;
-        }
-        self.place <= other.place
-    }
 }
 
-// Puts one in; answers how many the heap holds then.
 fn put_one(
     rt: &HostRuntime,
-    memory: &mut [Numbered],
-    len: usize,
+    numbers: &mut BoundedHeap<'_, Numbered>,
     one: Numbered,
-) -> anyhow::Result<usize>
-    requires { Holds memory.old len }
-    ensures { IfOk result (λ n. Holds memory.new n) }
-{
-    match put(memory, len, one) {
-        Ok(()) => Ok(len + 1),
-        Err(_) => {
-            print!(rt; " full")?;
-            Ok(len)
-        }
+) -> anyhow::Result<()> {
+    if numbers.put(one).is_err() {
+        print!(rt; " full")?;
     }
+    Ok(())
 }
 
-// Takes the first out and prints it; answers how many the heap holds then.
-fn take_one(rt: &HostRuntime, memory: &mut [Numbered], len: usize) -> anyhow::Result<usize>
-    requires { Holds memory.old len }
-    ensures { IfOk result (λ n. (n ≡ len - 1) × Holds memory.new n) }
+// Takes the first out and prints it; answers whether there was one.
+fn take_one(rt: &HostRuntime, numbers: &mut BoundedHeap<'_, Numbered>) -> anyhow::Result<bool>
+    ensures { IfOk result (λ some. some ≡ true → length numbers.new.row < length numbers.old.row) }
 {
-    match take_first(memory, len) {
-        Some(one) => {
-            let key = one.key;
-            let place = one.place;
-            print!(rt; " {key}.{place}")?;
-            Ok(len - 1)
-        }
-        None => {
-            print!(rt; " none")?;
-            Ok(0)
-        }
-    }
+    let Some(Numbered { key, place }) = numbers.take_first() else {
+        print!(rt; " none")?;
+        return Ok(false);
+    };
+    print!(rt; " {key}.{place}")?;
+    Ok(true)
 }
 
 fn work_words(rt: &HostRuntime, memory: &mut [Numbered], line: &str) -> anyhow::Result<()> {
     print!(rt; "answers")?;
-    let mut len = 0;
+    let mut numbers = BoundedHeap::new(memory);
     let mut place = 0u32;
     for word in line.split_whitespace() {
         if word == "-" {
-            len = take_one(rt, memory, len)?;
+            take_one(rt, &mut numbers)?;
         } else {
             let key = word.parse::<u32>()?;
-            len = put_one(rt, memory, len, Numbered { key, place })?;
+            put_one(rt, &mut numbers, Numbered { key, place })?;
         }
         place = place.wrapping_add(1);
     }
-    while len > 0 {
-        len = take_one(rt, memory, len)?;
-    }
-    take_one(rt, memory, len)?;
+    while take_one(rt, &mut numbers)? {}
     println!(rt; "")?;
     Ok(())
 }

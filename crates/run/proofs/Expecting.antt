@@ -1,15 +1,13 @@
 -- Arrivals under the orders in force, and the execution.
 use Rattle.std.proofs.Common.{◌≡◌, ℕ, zero, suc, ◌≤◌, List, length, get_or, arith}
-use mathlib.Core.HLevel.{⊥_prop}
 use mathlib.Core.Logic.{∥∥₁_elim}
 use native.Mathlib.Bridge.{le_prop}
 use Rattle.traffic.specs.Scene.{Scene, tick, nobody, ticks, NoRing, OnPaths}
 use Rattle.traffic.proofs.Ranking.{ticks_make_no_ring}
 use Rattle.traffic.proofs.Step.{ticks_are_entry_ticks}
-use Rattle.traffic.proofs.Sweep.{timed_same}
 use Rattle.floor.specs.Arrivals.{Arrivals}
 use Rattle.floor.specs.Standing.{InForce}
-use Rattle.run.specs.Asks.{Ringed, Execution}
+use Rattle.run.specs.Asks.{Execution}
 use Rattle.run.specs.State.{State, paths_on, scene_now}
 
 ticks_within : (n : ℕ) (c : Scene) → OnPaths c → NoRing c → (s : ℕ) → (ticks n c).entered s ≤ c.last s
@@ -17,9 +15,6 @@ ticks_within zero c on nr s = on.within s
 ticks_within (suc n) c on nr s = let next = ticks_make_no_ring c nobody on nr in ticks_within n (tick c nobody) next.0 next.1 s
 
 module _ (st : State) (t : ∥ InForce (paths_on st) st.firsts st.shuttles ∥₁) where
-  pub not_ringed : Ringed (scene_now st) → ⊥
-  not_ringed r = ∥∥₁_elim t ⊥_prop (λ h. r h.no_ring.0 (timed_same (scene_now st) h.no_ring.0 h.exist h.no_ring.1))
-
   pub execution : (l : List ℕ) → Arrivals (scene_now st) (length (paths_on st)) l → Execution st l
   execution l a n s lt =
       let c = scene_now st in

@@ -8,6 +8,7 @@ use Rattle.std.specs.List.{AllByRecursion}
 use Rattle.std.proofs.lemmas.Nat.{pow_pos}
 use Rattle.std.proofs.ByRecursion.{All-append, All-from_get_or, has_get_or}
 use Rattle.std.proofs.lemmas.Bool.{cond-true, lt-ltb}
+use Rattle.std.proofs.lemmas.Option.{none-some, same_Some}
 use Rattle.files.specs.declared.plan.Stop.{Stop}
 use Rattle.files.specs.Rules.{stop_at, path_at}
 use Rattle.meetings.specs.declared.meet.First.{First}
@@ -96,17 +97,6 @@ module _ (ps : List (List Stop)) (fs : List First) (xs : List Shuttle) (len : le
       subst (λ (d : Scene). left d (length ps) < left c (length ps)) (sym (tick-scene ps (named fs) 0 xs len ∙ ap (tick c) nobody-named))
       (ticks_make_fall c (length ps) h.exist h.no_ring (λ a. awaits_shuttles (length ps) (meetings ps) (named fs) a (ordered ps)) s lt (omega (arith, short)))
 
-abbrev fault_count : Option FloorFault → ℕ
-fault_count (Some x) = 1
-fault_count None = 0
-
-refuses : (x : FloorFault) → Some x ≡ None → ⊥
-refuses x q = let n : ◌≡◌ {A = ℕ} 1 0 = ap fault_count q in omega (arith, n)
-
-state_is : State → Option State → State
-state_is d (Some st) = st
-state_is d None = d
-
 module _ (st next : State) (standing : ℕ) (t : ∥ InForce (paths_on st) st.firsts st.shuttles ∥₁)
     (some : (s : ℕ) → s < length (paths_on st) → 1 ≤ length (path_at (paths_on st) s)) (len : length st.shuttles ≡ length (paths_on st)) where
   abbrev ps : List (List Stop)
@@ -138,12 +128,11 @@ module _ (st next : State) (standing : ℕ) (t : ∥ InForce (paths_on st) st.fi
   }
 
   go : (fault : Option FloorFault) → (standing ≡ 0 → fault ≡ None) → Some next ≡ unless (option_map from_floor fault) (Some (ticked standing st)) (Some st) → Safe st next × Progress standing st next
-  unfolding state_is
-  go None z e = let is : next ≡ ticked standing st = ap (state_is st) e in (subst (Safe st) (sym is) safe_ticked, subst (Progress standing st) (sym is) progress_ticked)
+  go None z e = let is : next ≡ ticked standing st = same_Some next (ticked standing st) e in (subst (Safe st) (sym is) safe_ticked, subst (Progress standing st) (sym is) progress_ticked)
   go (Some f) z e =
-      let is : next ≡ st = ap (state_is st) e in (
+      let is : next ≡ st = same_Some next st e in (
         subst (Safe st) (sym is) safe_still,
-        subst (Progress standing st) (sym is) (record { never = omega arith; falls = λ y s short. absurd (refuses f (z y)) }),
+        subst (Progress standing st) (sym is) (record { never = omega arith; falls = λ y s short. absurd (none-some f (sym (z y))) }),
       )
 
   pub keeps_tick : Some next ≡ unless (tick_refusal standing st) (Some (ticked standing st)) (Some st) → Safe st next × Progress standing st next

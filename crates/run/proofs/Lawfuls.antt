@@ -1,5 +1,5 @@
 -- Lawful orders wait for stops that exist.
-use Rattle.std.proofs.Common.{◌≡◌, ℕ, zero, suc, ◌-◌, ◌<◌, ◌≤◌, true, List, [], ◌∷◌, length, Some, None, vec_items, Option, sym, refl, ap, ◌∙◌, subst, arith}
+use Rattle.std.proofs.Common.{◌≡◌, ℕ, zero, suc, ◌-◌, ◌<◌, ◌≤◌, Bool, true, List, [], ◌∷◌, length, Some, None, Ok, Err, vec_items, Option, Result, MatchBool, MatchResult, is_ok, sym, refl, ap, ◌∙◌, subst, arith}
 use mathlib.Core.HLevel.{⊥_prop}
 use mathlib.Core.Logic.{∥∥₁_elim}
 use native.Mathlib.Bridge.{le_prop}
@@ -21,6 +21,8 @@ use Rattle.traffic.specs.Index.{meeting_at, order_at}
 use Rattle.traffic.specs.Plans.{is_same_stop, awaited_at, awaits, named}
 use Rattle.traffic.specs.Scene.{OnPaths}
 use Rattle.traffic.proofs.Sweep.{timed_same}
+use Rattle.floor.specs.declared.entry.Ring.{Ring}
+use Rattle.floor.specs.Sweeps.{Worked}
 use Rattle.floor.specs.Standing.{InForce}
 use Rattle.floor.proofs.Sound.{listed_of, one_awaited}
 use Rattle.floor.proofs.Sweeping.{all_split}
@@ -105,3 +107,9 @@ module _ (st : State) (k : ∥ Kept (paths_on st) (vec_items st.plan.tables) (ve
   pub ring_unlawful : (orders : List First) → Ringed (scene_under st (named orders)) → LawfulFor st orders → ⊥
   ring_unlawful orders r l =
       ∥∥₁_elim t ⊥_prop (λ h. r l.no_ring.0 (timed_same (scene_under st (named orders)) l.no_ring.0 (scene_on_paths st orders h is_listed l.count l.agree) l.no_ring.1))
+
+  -- orders that agree with those in force are lawful exactly if there are entry ticks under them
+  pub judged_lawful : (orders : List First) (r : Result (List (List ℕ)) Ring) (b : Bool) → b ≡ is_ok r → length orders ≡ length (vec_items st.plan.meetings) → Agrees st orders
+      → MatchResult r (Worked (scene_under st (named orders))) (λ _. Ringed (scene_under st (named orders))) → MatchBool b (LawfulFor st orders) (LawfulFor st orders → ⊥)
+  judged_lawful orders (Ok ticks) b e count agree w = subst (λ (v : Bool). MatchBool v (LawfulFor st orders) (LawfulFor st orders → ⊥)) (sym e) (record { count = count; agree = agree; no_ring = (_, w.timed.ticks) })
+  judged_lawful orders (Err f) b e count agree w = subst (λ (v : Bool). MatchBool v (LawfulFor st orders) (LawfulFor st orders → ⊥)) (sym e) (ring_unlawful orders w)

@@ -2,4 +2,3 @@ pub mod Expecting
 pub mod Keeping
 pub mod Lawfuls
 pub mod Standing
-pub mod Taking

@@ -1,16 +1,19 @@
 -- Orders in force stay in force.
-use Rattle.std.proofs.Common.{◌≡◌, ℕ, ◌≤◌, List, length, Some, None, Option, sym, subst, arith}
-use mathlib.Core.Logic.{∥∥₁_map, ∥∥₁_elim}
-use native.Mathlib.Bridge.{le_prop}
+use Rattle.std.proofs.Common.{◌≡◌, ℕ, List, length, Some, None, Option, vec_items, sym, subst}
+use mathlib.Core.Logic.{∥∥₁_map}
 use Rattle.files.specs.declared.plan.Stop.{Stop}
+use Rattle.files.specs.Views.{paths_of}
 use Rattle.meetings.specs.declared.meet.First.{First}
 use Rattle.meetings.specs.declared.meet.Meeting.{Meeting}
 use Rattle.orders.specs.Waits.{firsts_of}
+use Rattle.plans.specs.declared.plan.Plan.{Plan}
 use Rattle.plans.specs.Kept.{Kept}
 use Rattle.traffic.specs.Plans.{named}
+use Rattle.floor.specs.declared.floor.Floor.{Floor}
 use Rattle.floor.specs.declared.floor.calls.FloorFault.{FloorFault}
 use Rattle.floor.specs.declared.table.Shuttle.{Shuttle}
 use Rattle.floor.specs.Calls.{unless, after_hold}
+use Rattle.floor.specs.Floors.{paths_in, records_in}
 use Rattle.floor.specs.Scenes.{after_tick}
 use Rattle.floor.specs.Shuttles.{all_fresh}
 use Rattle.floor.specs.Standing.{InForce}
@@ -25,9 +28,10 @@ module _ (ps : List (List Stop)) (fs : List First) (xs : List Shuttle) (t : ∥ 
   ticked_in_force (Some f) standing e = t
   ticked_in_force None standing e = ∥∥₁_map t (in_force_tick ps fs xs standing e)
 
--- there is a first for each meeting, so there are not too many
-pub few_firsts : (ps : List (List Stop)) (ts : List ℕ) (ms : List Meeting) (fs : List First) (xs : List Shuttle) → ∥ Kept ps ts ms ∥₁ → ∥ InForce ps fs xs ∥₁ → length fs ≤ 256
-few_firsts ps ts ms fs xs k t = ∥∥₁_elim t le_prop (λ h. ∥∥₁_elim k le_prop (λ p. omega (arith, h.count, p.few)))
+-- the same of a floor, by its plan and its records
+pub floor_in_force : (g : Floor) (p : Plan) (fs : List First) (xs : List Shuttle) → g.plan ≡ p → records_in g ≡ xs → ∥ InForce (paths_of (vec_items p.paths)) fs xs ∥₁ → ∥ InForce (paths_in g) fs (records_in g) ∥₁
+floor_in_force g p fs xs e records t =
+    subst (λ (q : Plan). ∥ InForce (paths_of (vec_items q.paths)) fs (records_in g) ∥₁) (sym e) (subst (λ (ys : List Shuttle). ∥ InForce (paths_of (vec_items p.paths)) fs ys ∥₁) (sym records) t)
 
 -- a plan that has just been opened
 pub fresh_in_force : (ps : List (List Stop)) (ts : List ℕ) (ms : List Meeting) → Kept ps ts ms → InForce ps (firsts_of ms) (all_fresh (length ps))

@@ -1,62 +1,48 @@
 // Orders that leave no meeting out.
-ghost use Rattle.std.specs.Prelude.{◌≡◌, ◌≤◌, length, take, MatchResult};
+ghost use Rattle.std.specs.Prelude.{◌≡◌, ◌≤◌, length};
 ghost use Rattle.traffic.specs.Plans.{named};
-ghost use Rattle.traffic.specs.Scene.{Numbers};
-ghost use Rattle.traffic.specs.Sweep.{Timed};
-ghost use Rattle.floor.specs.Arrivals.{Arrivals};
-ghost use Rattle.floor.specs.Calls.{tick_fault};
-ghost use Rattle.floor.specs.Floors.{Carried, paths_in, records_in, scene_in};
-ghost use Rattle.floor.specs.Scenes.{after_tick, word_of_moved};
-ghost use Rattle.floor.specs.Sweeps.{Worked};
 
-use floor::entry::{Ring, SHUTTLES, STOPS};
-use floor::floor::Floor;
-use floor::floor::calls::FloorFault;
 use meetings::meet::First;
+use std::marker::Model;
 
 // How many meetings a plan may have.
 pub const MEETINGS: usize = 256;
 
-// Names who goes first at each meeting, in the front of a list of orders.
-pub(crate) fn name_all(firsts: &[First], orders: &mut [Option<First>])
-    requires { length firsts.now ≤ length orders.old }
-    ensures { take (length firsts.now) orders.new ≡ named firsts.now }
-{
-    for j in 0..firsts.len() {
-        orders[j] = Some(firsts[j]);
+// Who goes first at each meeting, in memory of its own: nothing is allocated for them. A clause sees the list of the orders.
+#[derive(Drop)]
+pub(crate) struct NamedOrders {
+    orders: [Option<First>; MEETINGS],
+    len: usize,
+}
+
+impl Model for NamedOrders {
+    ghost use Rattle.std.specs.Prelude.{◌≤◌, List, Option, take};
+    ghost use Rattle.meetings.specs.declared.meet.First.{First};
+
+    ghost Value = { List (Option First) };
+
+    ghost view = { λ n. take n.len n.orders };
+
+    ghost invariant = { λ n. n.len ≤ 256 };
+}
+
+impl NamedOrders {
+    pub(crate) fn new(firsts: &[First]) -> NamedOrders
+        requires { length firsts.now ≤ 256 }
+        ensures { result ≡ named firsts.now }
+    {
+        let mut orders = [None; MEETINGS];
+        // By the index: of `iter_mut().zip(..)` and `array::from_fn` the proof does not learn what the array holds in the end.
+        for (j, first) in firsts.iter().enumerate() {
+            orders[j] = Some(*first);
+        }
+        let len = firsts.len();
+        NamedOrders { orders, len }
     }
-}
 
-// One tick of a floor under orders that leave no meeting out.
-pub(crate) fn tick_under(
-    floor: &mut Floor,
-    firsts: &[First],
-    standing: u32,
-) -> Result<u32, FloorFault>
-    requires { length firsts.now ≤ 256 }
-    ensures { Carried (tick_fault (paths_in floor.old) standing) (word_of_moved (paths_in floor.old) (named firsts.now) standing (records_in floor.old)) (after_tick (paths_in floor.old) (named firsts.now) standing (records_in floor.old)) result floor.old floor.new }
-{
-    let mut orders = [None; MEETINGS];
-    name_all(firsts, &mut orders);
-    floor.tick(&orders[0..firsts.len()], standing)
-}
-
-// The entry ticks of a floor under orders that leave no meeting out.
-pub(crate) fn entry_under(floor: &Floor, firsts: &[First]) -> Result<[[u32; STOPS]; SHUTTLES], Ring>
-    requires { length firsts.now ≤ 256 }
-    ensures { MatchResult result (Worked (scene_in floor.now (named firsts.now))) (λ _. (e : Numbers) → Timed (scene_in floor.now (named firsts.now)) e → ⊥) }
-{
-    let mut orders = [None; MEETINGS];
-    name_all(firsts, &mut orders);
-    floor.entry_ticks(&orders[0..firsts.len()])
-}
-
-// The arrivals at a floor under orders that leave no meeting out.
-pub(crate) fn arrivals_under(floor: &Floor, firsts: &[First]) -> Result<[u32; SHUTTLES], Ring>
-    requires { length firsts.now ≤ 256 }
-    ensures { MatchResult result (Arrivals (scene_in floor.now (named firsts.now)) (length (paths_in floor.now))) (λ _. (e : Numbers) → Timed (scene_in floor.now (named firsts.now)) e → ⊥) }
-{
-    let mut orders = [None; MEETINGS];
-    name_all(firsts, &mut orders);
-    floor.arrivals(&orders[0..firsts.len()])
+    pub(crate) fn as_slice(&self) -> &[Option<First>]
+        ensures { result.now ≡ self.now }
+    {
+        &self.orders[..self.len]
+    }
 }

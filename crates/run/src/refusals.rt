@@ -6,6 +6,7 @@ ghost use Rattle.run.specs.Refusals.{from_floor, number_of};
 use files::layout::FileFault;
 use floor::floor::calls::FloorFault;
 use meetings::meet::MeetingFault;
+use orders::write::OrderFault;
 use plans::plan::opening::PlanFault;
 use std::alloc::AllocError;
 
@@ -38,6 +39,14 @@ impl From<AllocError> for Refusal {
     }
 }
 
+impl From<OrderFault> for Refusal {
+    ghost from_gives = { λ _ r. r ≡ refusal.ShortBuffer };
+
+    fn from(_e: OrderFault) -> Refusal {
+        Refusal::ShortBuffer
+    }
+}
+
 impl From<FloorFault> for Refusal {
     ghost from_gives = { λ e r. r ≡ from_floor e };
 
@@ -52,6 +61,7 @@ impl From<FloorFault> for Refusal {
 
 impl Refusal {
     // The number of a refusal; want of memory has none.
+    // The numbers are words of the output format, so each is written beside what it says.
     pub fn number(self) -> Option<u8>
         ensures { result ≡ number_of self }
     {

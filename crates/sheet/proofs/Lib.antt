@@ -1,4 +1,4 @@
 pub mod Decimals
-pub mod Lines
+pub mod Fitting
 pub mod Numbers
 pub mod Rowing

@@ -1,10 +1,11 @@
 -- Digits, one after another.
-use Rattle.std.proofs.Common.{◌≡◌, ℕ, zero, suc, ◌+◌, ◌*◌, ◌/◌, ◌%◌, ◌^◌, ◌<◌, ◌≤◌, cond, ltb, List, [], ◌∷◌, ◌++◌, length, take, drop, set, sym, ap, ◌∙◌, inl, inr, arith}
-use Rattle.std.proofs.lemmas.List.{set_split, length_push}
+use Rattle.std.proofs.Common.{◌≡◌, ℕ, zero, suc, ◌+◌, ◌*◌, ◌/◌, ◌%◌, ◌^◌, ◌<◌, ◌≤◌, Some, None, Option, IfNone, IfSome, unwrap_or, List, [], ◌∷◌, ◌++◌, length, set, sym, ap, ◌∙◌, subst, inl, inr, arith}
+use Rattle.std.proofs.lemmas.List.{length_push}
+use Rattle.std.proofs.Math.Nat.{pow-succ', one-le-pow}
 use Rattle.std.proofs.lemmas.Bool.{cases_lt, lt-ltb, le-ltb, cond-true, cond-false}
-use Rattle.orders.specs.File.{over}
-use Rattle.orders.proofs.Buffers.{length_over, over_none, over_more}
+use Rattle.run.specs.Writes.{Fits}
 use Rattle.sheet.specs.Digits.{digits_in, digits}
+use Rattle.sheet.proofs.Fitting.{fits_none, fits_byte, fits_long}
 
 -- ten times itself so often
 abbrev pub tens : ℕ → ℕ
@@ -34,44 +35,26 @@ pub digits_step : (n : ℕ) → n < 2 ^ 32 → 10 ≤ n → digits n ≡ digits 
 unfolding digits
 digits_step n small le = more_digits 9 n le ∙ ap (λ (l : List ℕ). l ++ (48 + n % 10) ∷ []) (enough 8 9 (n / 10) (omega (arith, small)) (omega (arith, small)))
 
-pub set_one : (xs : List ℕ) (at a : ℕ) → at < length xs → set xs at a ≡ over xs at (a ∷ [])
-set_one xs at a lt = set_split xs at a lt ∙ ap (λ k. take at xs ++ a ∷ drop k xs) {x = suc at} {y = at + 1} (omega arith)
-
--- a number with all digits but the last written
-pub record Begun (n at : ℕ) (old : List ℕ) (next : ℕ) (new : List ℕ) : Type 0 where
+-- all digits but the last, and a buffer whose front has them
+pub record Begun (n : ℕ) (old : List ℕ) (at : ℕ) (new : List ℕ) : Type 0 where
   pub front : List ℕ
   pub whole : digits n ≡ front ++ (48 + n % 10) ∷ []
-  pub place : next ≡ at + length front
-  pub bytes : new ≡ over old at front
+  pub fits : Fits front at old new
 
-pub begun_one : (n at : ℕ) (old : List ℕ) → n < 10 → Begun n at old at old
-begun_one n at old lt = record { front = []; whole = digits_one n lt; place = omega arith; bytes = sym (over_none old at) }
+pub begun_one : (n : ℕ) (old : List ℕ) → n < 10 → Begun n old 0 old
+begun_one n old lt = record { front = []; whole = digits_one n lt; fits = fits_none old }
 
-pub begun_more : (n at : ℕ) (old : List ℕ) (next : ℕ) (new : List ℕ) → n < 2 ^ 32 → 10 ≤ n → new ≡ over old at (digits (n / 10)) → next ≡ at + length (digits (n / 10)) → Begun n at old next new
-begun_more n at old next new small le e p = record { front = digits (n / 10); whole = digits_step n small le; place = p; bytes = e }
+pub begun_more : (n : ℕ) (old : List ℕ) (at : ℕ) (new : List ℕ) → n < 2 ^ 32 → 10 ≤ n → Fits (digits (n / 10)) at old new → Begun n old at new
+begun_more n old at new small le f = record { front = digits (n / 10); whole = digits_step n small le; fits = f }
 
-module _ (n at : ℕ) (old : List ℕ) (next : ℕ) (new : List ℕ) (b : Begun n at old next new) (room : at + length (digits n) ≤ length old) where
-  long : length (digits n) ≡ length b.front + 1
-  long = ap (λ (l : List ℕ). length l) b.whole ∙ length_push b.front (48 + n % 10)
+module _ (n : ℕ) (old : List ℕ) (at : ℕ) (new : List ℕ) (b : Begun n old at new) (room : length (digits n) ≤ length old) where
+  pub last_within : at < length new
+  last_within =
+      let long : length (digits n) ≡ length b.front + 1 = ap (λ (l : List ℕ). length l) b.whole ∙ length_push b.front (48 + n % 10) in
+      omega (arith, long, room, b.fits.count, fits_long b.front at old new b.fits (omega (arith, long, room, b.fits.count)))
 
-  same : length new ≡ length old
-  same = ap (λ (l : List ℕ). length l) b.bytes ∙ length_over old at b.front (omega (arith, long, room))
-
-  pub last_within : next < length new
-  last_within = omega (arith, b.place, same, long, room)
-
-  pub number_end : next + 1 ≡ at + length (digits n)
-  number_end = omega (arith, b.place, long)
-
-  pub number_written : set new next (48 + n % 10) ≡ over old at (digits n)
-  number_written =
-      set_one new next (48 + n % 10) last_within
-      ∙ ap (λ (l : List ℕ). over l next ((48 + n % 10) ∷ [])) b.bytes
-      ∙ over_more old at b.front ((48 + n % 10) ∷ []) next b.place (omega (arith, long, room))
-      ∙ ap (over old at) (sym b.whole)
-
-some_in : (k n : ℕ) → 1 ≤ length (digits_in (suc k) n)
-some_in k n = omega (arith, length_push (cond (ltb n 10) [] (digits_in k (n / 10))) (48 + n % 10))
+  pub number_fits : Fits (digits n) (at + 1) old (set new at (48 + n % 10))
+  number_fits = subst (λ (l : List ℕ). Fits l (at + 1) old (set new at (48 + n % 10))) (sym b.whole) (fits_byte b.front at old new b.fits (48 + n % 10) last_within)
 
 few_in : (k n : ℕ) → length (digits_in k n) ≤ k
 few_in zero n = omega arith
@@ -80,16 +63,24 @@ few_in (suc k) n = elim (cases_lt n 10) [
   | inr g ↦ omega (arith, ap (λ (x : List ℕ). length x) (more_digits k n g), length_push (digits_in k (n / 10)) (48 + n % 10), few_in k (n / 10))
 ]
 
-pub digits_some : (n : ℕ) → 1 ≤ length (digits n)
-unfolding digits
-digits_some n = some_in 9 n
-
 pub digits_few : (n : ℕ) → length (digits n) ≤ 10
 unfolding digits
 digits_few n = few_in 10 n
 
-pub count_step : (n : ℕ) → n < 2 ^ 32 → 10 ≤ n → length (digits n) ≡ length (digits (n / 10)) + 1
+count_step : (n : ℕ) → n < 2 ^ 32 → 10 ≤ n → length (digits n) ≡ length (digits (n / 10)) + 1
 count_step n small le = ap (λ (x : List ℕ). length x) (digits_step n small le) ∙ length_push (digits (n / 10)) (48 + n % 10)
 
-pub count_one : (n : ℕ) → n < 10 → length (digits n) ≡ 1
+count_one : (n : ℕ) → n < 10 → length (digits n) ≡ 1
 count_one n lt = ap (λ (x : List ℕ). length x) (digits_one n lt)
+
+-- a number between a power of ten and the next
+count_at : (k n : ℕ) → 10 ^ k ≤ n → n < 10 * 10 ^ k → n < 2 ^ 32 → length (digits n) ≡ k + 1
+count_at zero n low high small = count_one n (omega (arith, high))
+count_at (suc k) n low high small =
+    let e : 10 ^ suc k ≡ 10 * 10 ^ k = pow-succ' 10 k in
+    let one : 1 ≤ 10 ^ k = one-le-pow k 10 (omega arith) in
+    omega (arith, count_step n small (omega (arith, low, e, one)), count_at k (n / 10) (omega (arith, low, e)) (omega (arith, high, e)) (omega (arith, small)))
+
+pub counted : (n : ℕ) (o : Option ℕ) → n < 2 ^ 32 → IfNone o (n ≡ 0) → IfSome o (λ k. 10 ^ k ≤ n) → IfSome o (λ k. n < 10 * 10 ^ k) → length (digits n) ≡ unwrap_or o 0 + 1
+counted n None small z low high = count_one n (omega (arith, z))
+counted n (Some k) small z low high = count_at k n low high small

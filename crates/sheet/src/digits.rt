@@ -1,20 +1,20 @@
 // Decimal digits, written into a buffer.
-ghost use Rattle.std.specs.Prelude.{◌≡◌, ◌+◌, ◌≤◌, length};
-ghost use Rattle.orders.specs.File.{over};
+ghost use Rattle.std.specs.Prelude.{◌≡◌, ◌≤◌, length};
+ghost use Rattle.run.specs.Writes.{Fits};
 ghost use Rattle.sheet.specs.Digits.{digits};
 
-// Writes the digits of a number from a place on, and answers the place behind them.
-pub(crate) fn put_number(out: &mut [u8], at: usize, n: u32) -> usize
-    requires { at + length (digits n) ≤ length out.old }
-    ensures bytes { out.new ≡ over out.old at (digits n) }
-    ensures next { result ≡ at + length (digits n) }
+// Writes the digits of a number into the front of a buffer, and answers how many there are.
+// The division gives the last digit first, so the call writes the others before it.
+pub(crate) fn put_number(out: &mut [u8], n: u32) -> usize
+    requires { length (digits n) ≤ length out.old }
+    ensures { Fits (digits n) result out.old out.new }
 {
-    let mut next = at;
+    let mut at = 0;
     if n >= 10 {
-        next = put_number(out, at, n / 10);
+        at = put_number(out, n / 10);
     }
-    out[next] = 48 + (n % 10) as u8;
-    next + 1
+    out[at] = b'0' + (n % 10) as u8;
+    at + 1
 }
 
 // How many digits a number has.
@@ -22,11 +22,5 @@ pub(crate) fn digit_count(n: u32) -> usize
     ensures count { result ≡ length (digits n) }
     ensures few { result ≤ 10 }
 {
-    let mut rest = n;
-    let mut count = 1;
-    while rest >= 10 {
-        rest /= 10;
-        count += 1;
-    }
-    count
+    n.checked_ilog10().unwrap_or(0) as usize + 1
 }

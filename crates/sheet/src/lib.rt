@@ -4,10 +4,8 @@
 ghost use Rattle.std.specs.Prelude.{IsTrue};
 ghost use Rattle.sheet.specs.Laws.{DigitsReadBack, NoZeroLeads};
 
-pub mod cells;
 mod digits;
 pub mod due;
-pub mod queue;
 pub mod sheet;
 
 // The digits of a number read back, and no 0 leads.

@@ -1,12 +1,14 @@
 // What is asked of a run.
-ghost use Rattle.std.specs.Prelude.{◌≡◌, length, Some, Ok, MatchBool, ◌≢◌};
+ghost use Rattle.std.specs.Prelude.{◌≡◌, length, Some, Ok, MatchBool};
+ghost use Rattle.traffic.specs.Plans.{named};
+ghost use Rattle.run.specs.declared.run.asks.EntryFault.TheVariants as fault;
 ghost use Rattle.run.specs.Asks.{shuttle_on, next_of, first_on, TicksUnder, ArrivalsUnder, Expected, OpenOn, Agrees, Lawful};
 ghost use Rattle.run.specs.Views.{driven_state, state_of};
 
 use super::{Driven, Run};
-use crate::named::{arrivals_under, entry_under};
+use crate::named::NamedOrders;
 use crate::refusals::Refusal;
-use floor::entry::{SHUTTLES, STOPS};
+use floor::entry::{Ring, SHUTTLES, STOPS};
 use floor::table::Shuttle;
 use meetings::meet::First;
 use meetings::stays::At;
@@ -18,26 +20,26 @@ pub enum EntryFault {
     Ring,
 }
 
-// Whether the same shuttle goes first.
-fn same_first(a: First, b: First) -> bool
-    ensures { MatchBool result (a ≡ b) (a ≢ b) }
-{
-    match (a, b) {
-        (First::Lower, First::Lower) => true,
-        (First::Other, First::Other) => true,
-        _ => false,
+impl From<Ring> for EntryFault {
+    ghost from_gives = { λ _ r. r ≡ fault.Ring };
+
+    fn from(_e: Ring) -> EntryFault {
+        EntryFault::Ring
     }
 }
 
 impl Driven {
+    // The orders in force.
+    pub(super) fn orders(&self) -> NamedOrders
+        ensures { result ≡ named self.now.firsts.items }
+    {
+        NamedOrders::new(self.firsts.as_slice())
+    }
+
     fn first(&self, meeting: usize) -> Option<First>
         ensures { result ≡ first_on meeting (Some (driven_state self.now)) }
     {
-        if meeting < self.firsts.len() {
-            Some(self.firsts[meeting])
-        } else {
-            None
-        }
+        self.firsts.get(meeting).copied()
     }
 
     // Whether orders agree with those in force wherever a meeting is not open.
@@ -45,37 +47,25 @@ impl Driven {
         requires { length orders.now ≡ length self.now.firsts.items }
         ensures { MatchBool result (Agrees (driven_state self.now) orders.now) (Agrees (driven_state self.now) orders.now → ⊥) }
     {
-        for j in 0..orders.len() {
-            if !same_first(orders[j], self.firsts[j]) && !self.floor.is_open(j) {
-                return false;
-            }
-        }
-        true
+        orders.iter().zip(self.firsts.iter()).enumerate().all(|(j, (order, first))| order == first
+            || self.floor.is_open(j))
     }
 
     fn is_lawful(&self, orders: &[First]) -> bool
         ensures { MatchBool result (Lawful orders.now (Some (driven_state self.now))) (Lawful orders.now (Some (driven_state self.now)) → ⊥) }
     {
-        if orders.len() != self.firsts.len() {
+        if orders.len() != self.firsts.len() || !self.agrees(orders) {
             return false;
         }
-        if !self.agrees(orders) {
-            return false;
-        }
-        match entry_under(&self.floor, orders) {
-            Ok(_) => true,
-            Err(_) => false,
-        }
+        let named = NamedOrders::new(orders);
+        self.floor.entry_ticks(named.as_slice()).is_ok()
     }
 
     // Each shuttle's arrival under the orders in force, which close no ring.
     fn expected(&self) -> [u32; SHUTTLES]
         ensures { Expected (Some (driven_state self.now)) (Ok result) }
     {
-        match arrivals_under(&self.floor, self.firsts.as_slice()) {
-            Ok(arrivals) => arrivals,
-            Err(_) => [0; SHUTTLES],
-        }
+        self.floor.arrivals(self.orders().as_slice()).unwrap()
     }
 }
 
@@ -84,30 +74,24 @@ impl Run {
     pub fn shuttle(&self, shuttle: usize) -> Option<Shuttle>
         ensures { result ≡ shuttle_on shuttle (state_of self.now) }
     {
-        match &self.driven {
-            None => None,
-            Some(driven) => driven.floor.shuttle(shuttle),
-        }
+        let driven = self.driven.as_ref()?;
+        driven.floor.shuttle(shuttle)
     }
 
     // The next stop of a shuttle; none at its last stop, and none of a shuttle that is not in the plan.
     pub fn next_stop(&self, shuttle: usize) -> Option<At>
         ensures { result ≡ next_of shuttle (state_of self.now) }
     {
-        match &self.driven {
-            None => None,
-            Some(driven) => driven.floor.next_stop(shuttle),
-        }
+        let driven = self.driven.as_ref()?;
+        driven.floor.next_stop(shuttle)
     }
 
     // Who goes first at each meeting, by the orders in force.
     pub fn first(&self, meeting: usize) -> Option<First>
         ensures { result ≡ first_on meeting (state_of self.now) }
     {
-        match &self.driven {
-            None => None,
-            Some(driven) => driven.first(meeting),
-        }
+        let driven = self.driven.as_ref()?;
+        driven.first(meeting)
     }
 
     // The entry ticks of all stops under orders, of which some may be left out.
@@ -117,55 +101,41 @@ impl Run {
     ) -> Result<[[u32; STOPS]; SHUTTLES], EntryFault>
         ensures { TicksUnder orders.now (state_of self.now) result }
     {
-        match &self.driven {
-            None => Err(EntryFault::NoPlan),
-            Some(driven) => match driven.floor.entry_ticks(orders) {
-                Ok(ticks) => Ok(ticks),
-                Err(_) => Err(EntryFault::Ring),
-            },
-        }
+        let driven = self.driven.as_ref().ok_or(EntryFault::NoPlan)?;
+        Ok(driven.floor.entry_ticks(orders)?)
     }
 
     // Each shuttle's arrival under orders, of which some may be left out.
     pub fn arrivals(&self, orders: &[Option<First>]) -> Result<[u32; SHUTTLES], EntryFault>
         ensures { ArrivalsUnder orders.now (state_of self.now) result }
     {
-        match &self.driven {
-            None => Err(EntryFault::NoPlan),
-            Some(driven) => match driven.floor.arrivals(orders) {
-                Ok(arrivals) => Ok(arrivals),
-                Err(_) => Err(EntryFault::Ring),
-            },
-        }
+        let driven = self.driven.as_ref().ok_or(EntryFault::NoPlan)?;
+        Ok(driven.floor.arrivals(orders)?)
     }
 
     // Each shuttle's arrival under the orders in force.
     pub fn expected(&self) -> Result<[u32; SHUTTLES], Refusal>
         ensures { Expected (state_of self.now) result }
     {
-        match &self.driven {
-            None => Err(Refusal::NoPlan),
-            Some(driven) => Ok(driven.expected()),
-        }
+        let driven = self.driven.as_ref().ok_or(Refusal::NoPlan)?;
+        Ok(driven.expected())
     }
 
     // Whether a meeting is open.
     pub fn is_open(&self, meeting: usize) -> bool
         ensures { MatchBool result (OpenOn meeting (state_of self.now)) (OpenOn meeting (state_of self.now) → ⊥) }
     {
-        match &self.driven {
-            None => false,
-            Some(driven) => driven.floor.is_open(meeting),
-        }
+        self.driven
+            .as_ref()
+            .is_some_and(|driven| driven.floor.is_open(meeting))
     }
 
     // Whether passing orders are lawful.
     pub fn is_lawful(&self, orders: &[First]) -> bool
         ensures { MatchBool result (Lawful orders.now (state_of self.now)) (Lawful orders.now (state_of self.now) → ⊥) }
     {
-        match &self.driven {
-            None => false,
-            Some(driven) => driven.is_lawful(orders),
-        }
+        self.driven
+            .as_ref()
+            .is_some_and(|driven| driven.is_lawful(orders))
     }
 }

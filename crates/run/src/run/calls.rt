@@ -6,7 +6,6 @@ ghost use Rattle.run.specs.Safety.{Keeps};
 ghost use Rattle.run.specs.Views.{Drives, driven_state, state_of};
 
 use super::{Driven, Run};
-use crate::named::tick_under;
 use crate::refusals::Refusal;
 use floor::floor::Floor;
 use orders::waits::plan_firsts;
@@ -38,8 +37,8 @@ impl Driven {
     fn tick(&mut self, standing: u32) -> Result<u32, Refusal>
         ensures { Took (tick_refusal standing (driven_state self.old)) (moved_on standing (driven_state self.old)) (Some (ticked standing (driven_state self.old))) result (Some (driven_state self.old)) (Some (driven_state self.new)) }
     {
-        let moved = tick_under(&mut self.floor, self.firsts.as_slice(), standing)?;
-        Ok(moved)
+        let orders = self.orders();
+        Ok(self.floor.tick(orders.as_slice(), standing)?)
     }
 }
 
@@ -67,10 +66,8 @@ impl Run {
     pub fn hold(&mut self, shuttle: usize, ticks: u32) -> Result<(), Refusal>
         ensures { Took (on_plan (hold_refusal shuttle ticks) (state_of self.old)) tt (option_map (held shuttle ticks) (state_of self.old)) result (state_of self.old) (state_of self.new) }
     {
-        match &mut self.driven {
-            None => Err(Refusal::NoPlan),
-            Some(driven) => driven.hold(shuttle, ticks),
-        }
+        let driven = self.driven.as_mut().ok_or(Refusal::NoPlan)?;
+        driven.hold(shuttle, ticks)
     }
 
     // One tick, at which the shuttles that a word names stand. Answers the word of those that moved.
@@ -78,9 +75,7 @@ impl Run {
         ensures took { Took (on_plan (tick_refusal standing) (state_of self.old)) (moved_by standing (state_of self.old)) (option_map (ticked standing) (state_of self.old)) result (state_of self.old) (state_of self.new) }
         ensures keeps { Keeps standing (state_of self.old) (state_of self.new) }
     {
-        match &mut self.driven {
-            None => Err(Refusal::NoPlan),
-            Some(driven) => driven.tick(standing),
-        }
+        let driven = self.driven.as_mut().ok_or(Refusal::NoPlan)?;
+        driven.tick(standing)
     }
 }

@@ -11,12 +11,7 @@ impl Run {
     pub fn write_orders(&self, out: &mut [u8]) -> Result<usize, Refusal>
         ensures { OrdersWritten (state_of self.now) result out.old out.new }
     {
-        match &self.driven {
-            None => Err(Refusal::NoPlan),
-            Some(driven) => match write_orders(driven.floor.plan(), driven.firsts.as_slice(), out) {
-                Ok(len) => Ok(len),
-                Err(_) => Err(Refusal::ShortBuffer),
-            },
-        }
+        let driven = self.driven.as_ref().ok_or(Refusal::NoPlan)?;
+        Ok(write_orders(driven.floor.plan(), driven.firsts.as_slice(), out)?)
     }
 }

@@ -2,11 +2,10 @@ use Rattle.std.proofs.Common.{◌≡◌, List, length, Some, vec_items, sym, ap,
 use Rattle.files.specs.Views.{paths_of}
 use Rattle.meetings.specs.declared.meet.First.{First}
 use Rattle.plans.specs.declared.plan.Plan.{Plan}
-use Rattle.floor.specs.declared.table.Shuttle.{Shuttle}
 use Rattle.floor.specs.Floors.{records_in}
 use Rattle.floor.specs.Shuttles.{all_fresh}
 use Rattle.floor.specs.Standing.{InForce}
-use Rattle.run.proofs.Standing.{fresh_in_force}
+use Rattle.run.proofs.Standing.{floor_in_force, fresh_in_force}
 use Rattle.run.proofs.run.Driven.new.Goals as goal
 
 pub invariant_of-result : goal.invariant_of-result
@@ -16,12 +15,8 @@ invariant_of-result c =
     let e = c.in_ok-floor.ensures in
     let ps = paths_of (vec_items p.paths) in
     let records : records_in f ≡ all_fresh (length ps) = e.fresh ∙ ap (λ (q : Plan). all_fresh (length (paths_of (vec_items q.paths)))) e.of in
-    record {
-      in_force = ∣ subst (λ (q : Plan). InForce (paths_of (vec_items q.paths)) (vec_items c.in_ok-firsts.firsts) (records_in f)) (sym e.of)
-          (subst (λ (xs : List Shuttle). InForce ps (vec_items c.in_ok-firsts.firsts) xs) (sym records)
-          (subst (λ (fs : List First). InForce ps fs (all_fresh (length ps))) (sym c.in_ok-firsts.ensures)
-          (fresh_in_force ps (vec_items p.tables) (vec_items p.meetings) c.in_ok-plan.ensures.value.1))) ∣₁;
-    }
+    let fresh = ∣ subst (λ (fs : List First). InForce ps fs (all_fresh (length ps))) (sym c.in_ok-firsts.ensures) (fresh_in_force ps (vec_items p.tables) (vec_items p.meetings) c.in_ok-plan.ensures.value.1) ∣₁ in
+    record { in_force = floor_in_force f p (vec_items c.in_ok-firsts.firsts) (all_fresh (length ps)) e.of records fresh }
 
 pub returns : goal.returns
 returns c =

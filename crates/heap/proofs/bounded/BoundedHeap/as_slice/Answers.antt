@@ -1,0 +1,6 @@
+use Rattle.heap.specs.Rows.{no_later}
+use Rattle.heap.proofs.Holdings.{row_keeps}
+use Rattle.heap.proofs.bounded.BoundedHeap.as_slice.Goals as goal
+
+pub returns : goal.returns
+returns g c = row_keeps (no_later g.T.Ord.cmp) c.self.inside.len c.self.inside.memory.now c.self.invariant.0 c.args.self.now c.self.view_is

@@ -1,0 +1,79 @@
+// A heap that has the memory it was lent, and keeps its order.
+ghost use Rattle.std.specs.Prelude.{◌≡◌, ◌≤◌, ◌==◌, [], length};
+ghost use Rattle.std.specs.List.Sorted.{IsPermutation};
+ghost use Rattle.heap.specs.Bounded.{PutsIn, TakesOut};
+ghost use Rattle.heap.specs.Rows.{no_later};
+
+use crate::heap::{Full, put, take_first};
+use crate::order::TotalOrder;
+use std::marker::Model;
+
+// The first `len` places of the memory hold a heap. A clause sees its elements in their order, and for how many there is room.
+#[derive(Drop)]
+pub struct BoundedHeap<'a, T: TotalOrder + Copy> {
+    memory: &'a mut [T],
+    len: usize,
+}
+
+impl<'a, T: TotalOrder + Copy> Model for BoundedHeap<'a, T> {
+    ghost use Rattle.std.specs.Prelude.{◌≤◌, length, take};
+    ghost use Rattle.heap.specs.Bounded.{Holding, held};
+    ghost use Rattle.heap.specs.Heaps.{Heap};
+    ghost use Rattle.heap.specs.Rows.{no_later};
+
+    ghost Value = { Holding T };
+
+    ghost view = { λ h. held (no_later T.cmp) h.len h.memory.now };
+
+    ghost invariant = { λ h. (h.len ≤ length h.memory.now) × Heap (no_later T.cmp) (take h.len h.memory.now) };
+}
+
+impl<'a, T: TotalOrder + Copy> BoundedHeap<'a, T> {
+    // An empty heap.
+    pub fn new(memory: &'a mut [T]) -> BoundedHeap<'a, T>
+        ensures row { result.row ≡ [] }
+        ensures room { result.room ≡ length memory.old }
+    {
+        BoundedHeap { memory, len: 0 }
+    }
+
+    // Whether it holds none.
+    pub fn is_empty(&self) -> bool
+        ensures { result ≡ (length self.now.row == 0) }
+    {
+        self.len == 0
+    }
+
+    // Whether no room is left.
+    pub fn is_full(&self) -> bool
+        ensures full { result ≡ (length self.now.row == self.now.room) }
+        ensures within { length self.now.row ≤ self.now.room }
+    {
+        self.len == self.memory.len()
+    }
+
+    // Its elements, in the order in which they lie in the memory.
+    pub fn as_slice(&self) -> &[T]
+        ensures { IsPermutation result.now self.now.row }
+    {
+        &self.memory[..self.len]
+    }
+
+    // Puts an element into its place of the row; a full heap stays as it is.
+    pub fn put(&mut self, x: T) -> Result<(), Full>
+        ensures { PutsIn (no_later T.cmp) x result self.old self.new }
+    {
+        put(self.memory, self.len, x)?;
+        self.len += 1;
+        Ok(())
+    }
+
+    // Takes the first of the row; none of an empty heap.
+    pub fn take_first(&mut self) -> Option<T>
+        ensures { TakesOut (no_later T.cmp) result self.old self.new }
+    {
+        let first = take_first(self.memory, self.len)?;
+        self.len -= 1;
+        Some(first)
+    }
+}
