@@ -18,7 +18,7 @@ pub const SHUTTLES: usize = 32;
 pub const STOPS: usize = 64;
 
 // The orders close a ring: there are no entry ticks.
-#[derive(Clone, Copy)]
+#[derive(Clone, Copy, PartialEq, Eq, Debug)]
 pub struct Ring;
 
 // The entry ticks of a floor under orders, as far as they are known: how many stops of each shuttle have one, and which.

@@ -7,7 +7,7 @@ use crate::entry::SHUTTLES;
 use std::alloc::{AllocError, Global};
 
 // The last stop entered, and the hold ticks left.
-#[derive(Clone, Copy)]
+#[derive(Clone, Copy, PartialEq, Eq, Debug)]
 pub struct Shuttle {
     pub stop: usize,
     pub hold: u16,

@@ -3,15 +3,13 @@ ghost use Rattle.std.specs.Prelude.{◌≡◌};
 ghost use Rattle.run.specs.declared.refusals.Refusal.TheVariants as refusal;
 ghost use Rattle.run.specs.Refusals.{from_floor, number_of};
 
-use files::layout::FileFault;
 use floor::floor::calls::FloorFault;
-use meetings::meet::MeetingFault;
 use orders::write::OrderFault;
 use plans::plan::opening::PlanFault;
 use std::alloc::AllocError;
 
 // No plan, a plan already, a plan that is refused, want of memory, no such shuttle, a hold at a last stop, a hold too long, a buffer too short.
-#[derive(Clone, Copy)]
+#[derive(Clone, Copy, PartialEq, Eq, Debug)]
 pub enum Refusal {
     NoPlan,
     HasPlan,
@@ -68,12 +66,7 @@ impl Refusal {
         match self {
             Refusal::NoPlan => Some(1),
             Refusal::HasPlan => Some(2),
-            Refusal::Plan(PlanFault::File(FileFault::Torn(_))) => Some(3),
-            Refusal::Plan(PlanFault::File(FileFault::Memory)) => None,
-            Refusal::Plan(PlanFault::Path(_)) => Some(4),
-            Refusal::Plan(PlanFault::Meetings(MeetingFault::Collision(_))) => Some(5),
-            Refusal::Plan(PlanFault::Meetings(MeetingFault::TooMany)) => Some(6),
-            Refusal::Plan(PlanFault::Meetings(MeetingFault::Memory)) => None,
+            Refusal::Plan(fault) => fault.number(),
             Refusal::Memory => None,
             Refusal::NoShuttle => Some(7),
             Refusal::AtLastStop => Some(8),

@@ -23,7 +23,7 @@ use std::alloc::{AllocError, Global};
 const LONGEST_HOLD: u32 = 4095;
 
 // Why a call is refused: a shuttle that is not in the plan, a hold at a last stop, a hold too long.
-#[derive(Clone, Copy)]
+#[derive(Clone, Copy, PartialEq, Eq, Debug)]
 pub enum FloorFault {
     NoShuttle,
     AtLastStop,

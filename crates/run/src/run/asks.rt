@@ -14,7 +14,7 @@ use meetings::meet::First;
 use meetings::stays::At;
 
 // Why there are no entry ticks: the run has no plan, or the orders close a ring.
-#[derive(Clone, Copy)]
+#[derive(Clone, Copy, PartialEq, Eq, Debug)]
 pub enum EntryFault {
     NoPlan,
     Ring,
