@@ -2,26 +2,26 @@ use Rattle.std.proofs.Common.{sym, ◌∙◌, rules}
 use Rattle.lines.proofs.Spelling.{begins, exactly}
 use Rattle.lines.proofs.commands.read_line.Goals as goal
 
-pub returns-in_err-shuttle-in-H : goal.returns-in_err-shuttle-in-H
-returns-in_err-shuttle-in-H c =
+pub returns-in_err-shuttle-in-H-clause-exact : goal.returns-in_err-shuttle-in-H-clause-exact
+returns-in_err-shuttle-in-H-clause-exact c =
     let is = begins c.args.line.now 72 (search rules) (search rules) in
     let was = sym c.last_two_numbers.ensures ∙ c.in_err-shuttle-in-H.was in
-    record { value = search rules; exact = exactly _ _ (search rules) }
+    exactly _ _ (search rules)
 
-pub returns-in_err-standing-in-T : goal.returns-in_err-standing-in-T
-returns-in_err-standing-in-T c =
+pub returns-in_err-standing-in-T-clause-exact : goal.returns-in_err-standing-in-T-clause-exact
+returns-in_err-standing-in-T-clause-exact c =
     let is = begins c.args.line.now 84 (search rules) (search rules) in
     let was = sym c.last_number.ensures ∙ c.in_err-standing-in-T.was in
-    record { value = search rules; exact = exactly _ _ (search rules) }
+    exactly _ _ (search rules)
 
-pub returns-in_ok-shuttle-in-H : goal.returns-in_ok-shuttle-in-H
-returns-in_ok-shuttle-in-H c =
+pub returns-in_ok-shuttle-in-H-clause-exact : goal.returns-in_ok-shuttle-in-H-clause-exact
+returns-in_ok-shuttle-in-H-clause-exact c =
     let is = begins c.args.line.now 72 (search rules) (search rules) in
     let was = sym c.last_two_numbers.ensures ∙ c.in_ok-shuttle-in-H.was in
-    record { value = search rules; exact = exactly _ _ (search rules) }
+    exactly _ _ (search rules)
 
-pub returns-in_ok-standing-in-T : goal.returns-in_ok-standing-in-T
-returns-in_ok-standing-in-T c =
+pub returns-in_ok-standing-in-T-clause-exact : goal.returns-in_ok-standing-in-T-clause-exact
+returns-in_ok-standing-in-T-clause-exact c =
     let is = begins c.args.line.now 84 (search rules) (search rules) in
     let was = sym c.last_number.ensures ∙ c.in_ok-standing-in-T.was in
-    record { value = search rules; exact = exactly _ _ (search rules) }
+    exactly _ _ (search rules)

@@ -1,7 +1,7 @@
 use Rattle.std.proofs.Common.{take, Some, sym, ap, ◌∙◌, subst, inl, inr, arith, rules}
 use Rattle.std.specs.Option.{option_map}
 use Rattle.lines.specs.Numbers.{Digits, taken}
-use Rattle.lines.proofs.Digits.{count_is, count_le, count_digits}
+use Rattle.lines.proofs.Digits.{count_is, count_digits}
 use Rattle.lines.proofs.Taken.{after, not_counted, not_fitting, number-taken}
 use Rattle.lines.proofs.numbers.read_number.Goals as goal
 
@@ -9,9 +9,6 @@ pub returns-then-count-eq0 : goal.returns-then-count-eq0
 returns-then-count-eq0 c =
     not_counted c.args.bytes.now (search rules) (search rules) c.digit_count-count.result (c.digit_count-count.ensures ∙ count_is (after c.args.bytes.now))
     (elim c.then-count-eq0.either [ inl e ↦ inl e | inr p ↦ inr (omega (arith, p.1)) ])
-
-pub split_at-requires : goal.split_at-requires
-split_at-requires c = omega (arith, count_le (after c.args.bytes.now), (c.digit_count-count.ensures ∙ count_is (after c.args.bytes.now)))
 
 pub digits_worth-requires : goal.digits_worth-requires
 digits_worth-requires c =

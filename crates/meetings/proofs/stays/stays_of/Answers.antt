@@ -1,8 +1,6 @@
-use Rattle.std.proofs.Common.{◌≡◌, ◌++◌, length, sym, ap, ◌∙◌, arith}
-use Rattle.std.proofs.lemmas.List.{length-map}
-use Rattle.std.specs.List.{range_with_len, flat_map}
+use Rattle.std.proofs.Common.{◌≡◌, ◌++◌, sym, ◌∙◌}
 use Rattle.files.specs.Rules.{path_at}
-use Rattle.files.specs.Views.{path_of, paths_of}
+use Rattle.files.specs.Views.{paths_of}
 use Rattle.files.proofs.Paths.{path_read}
 use Rattle.meetings.specs.Stays.{path_stays}
 use Rattle.meetings.proofs.Counts.{joined_counting_more}
@@ -16,9 +14,3 @@ loop-shuttle-preserved c =
     c.in_ok-add_stays.ensures
     ∙ (λ i. c.loop-shuttle.invariant i ++ path_stays s (here i))
     ∙ sym (joined_counting_more (λ t. path_stays t (path_at ps t)) s)
-
-pub returns : goal.returns
-returns c =
-    let ps = paths_of c.args.paths.now in
-    let n : c.loop-shuttle.shuttle ≡ length ps = omega (arith, length-map c.args.paths.now path_of) in
-    c.loop-shuttle.invariant ∙ ap (λ k. flat_map (λ s. path_stays s (path_at ps s)) (range_with_len 0 k)) n

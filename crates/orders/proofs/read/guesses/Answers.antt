@@ -8,9 +8,6 @@ use Rattle.orders.specs.Waits.{FitsMeeting}
 use Rattle.orders.proofs.Zipped.{no_meeting}
 use Rattle.orders.proofs.read.guesses.Goals as goal
 
-pub guess-requires : goal.guess-requires
-guess-requires c = All-get_or FitsMeeting c.args.meetings.now c.loop-meeting.meeting-index no_meeting c.loop-meeting-test.true c.requires
-
 pub loop-meeting-preserved : goal.loop-meeting-preserved
 loop-meeting-preserved c =
     let old = vec_items c.loop-meeting.firsts in

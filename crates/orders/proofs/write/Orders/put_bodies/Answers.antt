@@ -1,14 +1,11 @@
-use Rattle.std.proofs.Common.{◌≡◌, ◌+◌, ◌*◌, length, sym, ap, ◌∙◌, arith}
+use Rattle.std.proofs.Common.{◌+◌, ◌*◌, length, sym, ap, ◌∙◌, arith}
 use Rattle.std.proofs.lemmas.List.{length-append}
 use Rattle.orders.specs.File.{body_bytes, over}
 use Rattle.orders.specs.Plans.{shuttles_of, waits_of}
 use Rattle.meetings.proofs.Counts.{joined_counting_more}
 use Rattle.meetings.proofs.Places.{upto, upto_rises}
-use Rattle.orders.proofs.Buffers.{over_none, over_more}
+use Rattle.orders.proofs.Buffers.{over_more}
 use Rattle.orders.proofs.write.Orders.put_bodies.Goals as goal
-
-pub loop-shuttle-init : goal.loop-shuttle-init
-loop-shuttle-init c = (sym (over_none c.args.out.now (2 + 4 * shuttles_of c.args.self.now)), omega arith)
 
 pub put_body-at-requires : goal.put_body-at-requires
 put_body-at-requires c =
@@ -26,6 +23,3 @@ loop-shuttle-preserved c =
       c.put_body-at.ensures.bytes ∙ ap (λ o. over o c.loop-shuttle.at (f s)) c.loop-shuttle.invariant.0 ∙ over_more c.args.out.now begin (upto f s) (f s) c.loop-shuttle.at c.loop-shuttle.invariant.1 (omega (arith, c.requires)) ∙ ap (over c.args.out.now begin) (sym more),
       omega (arith, c.put_body-at.ensures.next, c.loop-shuttle.invariant.1, ap length more, length-append (upto f s) (f s)),
     )
-
-pub returns : goal.returns
-returns c = let f = body_bytes (waits_of c.args.self.now) in let n : c.loop-shuttle.shuttle ≡ shuttles_of c.args.self.now = omega arith in c.loop-shuttle.invariant.0 ∙ ap (λ k. over c.args.out.now (2 + 4 * shuttles_of c.args.self.now) (upto f k)) n

@@ -1,4 +1,4 @@
-use Rattle.std.proofs.Common.{◌≡◌, ◌+◌, ◌++◌, sym, refl, ap, ◌∙◌, append_assoc, arith}
+use Rattle.std.proofs.Common.{◌≡◌, ◌+◌, ◌++◌, sym, ap, ◌∙◌, append_assoc, arith}
 use Rattle.std.proofs.lemmas.List.{length-append}
 use Rattle.files.specs.Bytes.{word_bytes}
 use Rattle.orders.specs.File.{entry_bytes, over}
@@ -6,11 +6,8 @@ use Rattle.orders.specs.Plans.{shuttles_of, waits_of}
 use Rattle.meetings.proofs.Counts.{joined_counting_more}
 use Rattle.meetings.proofs.Places.{upto}
 use Rattle.orders.proofs.Bodies.{before_more, length-entries}
-use Rattle.orders.proofs.Buffers.{over_none, over_more}
+use Rattle.orders.proofs.Buffers.{over_more}
 use Rattle.orders.proofs.write.Orders.put_contents.Goals as goal
-
-pub loop-shuttle-init : goal.loop-shuttle-init
-loop-shuttle-init c = (sym (over_none c.args.out.now 2), refl, omega arith, omega arith)
 
 pub loop-shuttle-preserved : goal.loop-shuttle-preserved
 loop-shuttle-preserved c =
@@ -35,6 +32,3 @@ loop-shuttle-preserved c =
       omega (arith, c.loop-shuttle.invariant.2, c.count-count.ensures.count, before_more ws s),
       omega (arith, c.loop-shuttle.invariant.3, c.count-count.ensures.few),
     )
-
-pub returns : goal.returns
-returns c = let f = entry_bytes (shuttles_of c.args.self.now) (waits_of c.args.self.now) in let n : c.loop-shuttle.shuttle ≡ shuttles_of c.args.self.now = omega arith in c.loop-shuttle.invariant.0 ∙ ap (λ k. over c.args.out.now 2 (upto f k)) n

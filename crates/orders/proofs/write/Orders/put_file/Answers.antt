@@ -12,10 +12,6 @@ pub returns-then-out-len : goal.returns-then-out-len
 returns-then-out-len c =
     (omega (arith, length-order_bytes (shuttles_of c.args.self.now) (waits_of c.args.self.now), c.file_len-len.ensures, c.if-out-len.true), refl)
 
-pub put_contents-requires : goal.put_contents-requires
-put_contents-requires c =
-    omega (arith, c.file_len-len.ensures, c.if-out-len.false, c.put_word.auto.out)
-
 pub put_bodies-requires : goal.put_bodies-requires
 put_bodies-requires c =
     let long = length-bodies (waits_of c.args.self.now) (shuttles_of c.args.self.now) in
