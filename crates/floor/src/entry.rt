@@ -22,7 +22,7 @@ pub const STOPS: usize = 64;
 pub struct Ring;
 
 // The entry ticks of a floor under orders, as far as they are known: how many stops of each shuttle have one, and which.
-// The arrays have room for any plan, since entry ticks allocate no memory.
+// The arrays have room for any plan, since entry ticks allocate no memory; they are two, since the ticks alone are the answer.
 #[derive(Drop)]
 pub(crate) struct Sweep<'a> {
     scene: Scene<'a>,
@@ -71,6 +71,7 @@ impl<'a> Sweep<'a> {
         requires { IfSome other (λ a. a.shuttle < 32) }
         ensures { Later result latest (known_in self.now.known) (numbers_in self.now.ticks) (option_to_list other) }
     {
+        // A `match`: of `map_or` the proof did not close.
         match other {
             None => Some(latest),
             Some(at) => Some(latest.max(self.tick(at)?)),

@@ -65,6 +65,7 @@ impl Scene<'_> {
             shuttle,
             stop: one.stop,
         };
+        // A `match`: of `is_some_and` the proof did not close.
         match self.floor.after(entered) {
             None => false,
             Some(at) => self.is_clear(at),

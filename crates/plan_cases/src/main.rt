@@ -67,6 +67,7 @@ fn print_plan(rt: &HostRuntime, digits: &[u8]) -> anyhow::Result<Option<Plan>> {
     Ok(answer.ok())
 }
 
+// The number that the digits of a line write. It is no `parse`, since what is no digit is passed over.
 fn number(digits: &[u8]) -> usize {
     digits
         .iter()

@@ -21,13 +21,10 @@ use meetings::meet::First;
 use run::refusals::Refusal;
 use run::run::Run;
 use run::run::asks::EntryFault;
-use std::alloc::Global;
+use std::alloc::{AllocError, Global};
 
 // The number of every run.
 const RUN: u32 = 7;
-
-// How many meetings a plan may have.
-const MEETINGS: usize = 256;
 
 // A run, and the plan file that it was opened with, which is empty before that.
 #[derive(Drop)]
@@ -51,13 +48,9 @@ fn letter_of(first: First) -> char {
     }
 }
 
-// Orders by their letters; those past the most meetings are not kept.
-fn read_orders(letters: &[u8]) -> [Option<First>; MEETINGS] {
-    let mut orders = [None; MEETINGS];
-    for (order, letter) in orders.iter_mut().zip(letters.iter()) {
-        *order = first_of(*letter);
-    }
-    orders
+// Orders by their letters.
+fn read_orders(heap: Global, letters: &[u8]) -> Result<Vec<Option<First>>, AllocError> {
+    letters.iter().map(|letter| first_of(*letter)).collect(heap)
 }
 
 // Orders that leave no meeting out, by their letters.
@@ -183,9 +176,8 @@ fn print_arrivals(
 }
 
 fn arrivals(rt: &HostRuntime, run: &Run, letters: &[u8]) -> anyhow::Result<()> {
-    let orders = read_orders(letters);
-    let count = letters.len().min(MEETINGS);
-    match run.arrivals(&orders[0..count]) {
+    let orders = read_orders(rt.alloc(), letters)?;
+    match run.arrivals(orders.as_slice()) {
         Ok(arrivals) => print_arrivals(rt, "A", run, arrivals),
         Err(why) => print_fault(rt, "A", why),
     }
@@ -209,9 +201,8 @@ fn print_path(rt: &HostRuntime, ticks: &[u32; STOPS], stops: usize) -> anyhow::R
 }
 
 fn entry_ticks(rt: &HostRuntime, case: &Case, letters: &[u8]) -> anyhow::Result<()> {
-    let orders = read_orders(letters);
-    let count = letters.len().min(MEETINGS);
-    match case.run.entry_ticks(&orders[0..count]) {
+    let orders = read_orders(rt.alloc(), letters)?;
+    match case.run.entry_ticks(orders.as_slice()) {
         Ok(ticks) => {
             print!(rt; "E")?;
             for (s, path) in ticks.iter().enumerate().take(shuttle_count(&case.run)) {
