@@ -43,10 +43,7 @@ pub fn obey(run: &mut Run, command: Command) -> Reply
     ensures reply { result ≡ reply_to command (state_of run.old) }
     ensures state { state_of run.new ≡ state_after command (state_of run.old) }
 {
-    match call(run, command) {
-        Ok(reply) => reply,
-        Err(why) => refused(why),
-    }
+    call(run, command).unwrap_or_else(refused)
 }
 
 // Carries out a line on a run; a bad line is refused before any call.

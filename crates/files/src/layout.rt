@@ -15,7 +15,7 @@ pub enum FileFault {
     Memory,
 }
 
-// Want of memory comes as two types of error. Both conversions are written out, since a derived one would not say what comes of it.
+// Want of memory comes as two types of error. Both conversions are written out: a derived one (`thiserror`) has no clause that says what comes of it, and one generic over both would overlap with the others.
 impl From<AllocError> for FileFault {
     ghost from_gives = { λ _ r. r ≡ Memory };
 
@@ -46,7 +46,7 @@ struct Reader<'a> {
     at: usize,
 }
 
-// Its loops are no chains of iterators: each turn moves the reader on, and what a closure changes is not known behind it.
+// Each function says that the file stays the same, which its caller cannot see from a `&mut self`. Its loops are no chains of iterators: each turn moves the reader on, and a closure that does so would need a clause of its own for what it leaves.
 impl<'a> Reader<'a> {
     // The next number, which has to lie from `low` to `high`.
     fn number(&mut self, low: u32, high: u32) -> Result<u16, FileFault>

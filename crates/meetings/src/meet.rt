@@ -9,7 +9,7 @@ use crate::stays::{At, Stay};
 use std::alloc::{AllocError, AllocFailed, Global};
 
 // How many meetings a plan may have.
-const MOST_MEETINGS: usize = 256;
+pub const MOST_MEETINGS: usize = 256;
 
 // Who goes first at a meeting.
 #[derive(Clone, Copy, PartialEq, Eq, Debug)]
@@ -34,6 +34,7 @@ pub enum MeetingFault {
     Memory,
 }
 
+// Want of memory comes as two types of error. The conversions are written out: a derived one (`thiserror`) has no clause that says what comes of it, and one generic over both would overlap with that of a clash.
 impl From<Clash> for MeetingFault {
     ghost from_gives = { λ e r. r ≡ Collision e };
 
@@ -42,7 +43,6 @@ impl From<Clash> for MeetingFault {
     }
 }
 
-// Want of memory comes as two types of error. Both conversions are written out, since a derived one would not say what comes of it.
 impl From<AllocError> for MeetingFault {
     ghost from_gives = { λ _ r. r ≡ Memory };
 

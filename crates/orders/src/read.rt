@@ -1,6 +1,5 @@
 // Reading an order file back: the orders whose file it is, or that it is the file of none.
 ghost use Rattle.std.specs.Prelude.{◌≡◌, ◌^◌, ◌<◌, MatchBool, IsTrue, ◌↔◌, ◌≢◌, slice_index};
-ghost use Rattle.std.specs.List.{AllByRecursion};
 ghost use Rattle.files.specs.Layout.{word};
 ghost use Rattle.orders.specs.declared.read.ReadFault.TheVariants.{Memory};
 ghost use Rattle.orders.specs.Plans.{plan_orders};
@@ -9,7 +8,7 @@ ghost use Rattle.orders.specs.RoundTrip.{ReadsOrders};
 ghost use Rattle.orders.specs.Waits.{FitsMeeting};
 
 use crate::waits::{Wait, wait_of};
-use crate::write::{OrderFault, write_orders};
+use crate::write::{OrderFault, ROOM_FOR_ORDERS, write_orders};
 use meetings::meet::{First, Meeting};
 use plans::plan::Plan;
 use std::alloc::{AllocError, AllocFailed, Global};
@@ -21,7 +20,7 @@ pub enum ReadFault {
     Memory,
 }
 
-// Want of memory comes as two types of error. Both conversions are written out, since a derived one would not say what comes of it.
+// Want of memory comes as two types of error. Both conversions are written out: a derived one (`thiserror`) has no clause that says what comes of it, and two of one generic conversion would be no fewer.
 impl From<AllocError> for ReadFault {
     ghost from_gives = { λ _ r. r ≡ Memory };
 
@@ -37,6 +36,8 @@ impl<T: Drop> From<AllocFailed<T>> for ReadFault {
         ReadFault::Memory
     }
 }
+
+// The functions below take a place beside the bytes: each reads at places of its own, reckoned from numbers of the file, and none goes on where another stopped.
 
 // The byte at a place; past the end it is 0.
 fn byte_at(bytes: &[u8], at: usize) -> u8
@@ -89,24 +90,24 @@ fn guess(bytes: &[u8], meeting: &Meeting) -> First
     }
 }
 
-// The guess at each meeting.
-fn guesses(heap: Global, bytes: &[u8], meetings: &[Meeting]) -> Result<Vec<First>, ReadFault>
-    requires { AllByRecursion FitsMeeting meetings.now }
-    ensures { Guesses result bytes.now meetings.now }
+// The guess at each meeting of the plan.
+fn guesses(heap: Global, bytes: &[u8], plan: &Plan) -> Result<Vec<First>, ReadFault>
+    ensures { Guesses result bytes.now plan.now.meetings.items }
 {
     let mut firsts = Vec::new(heap);
-    for meeting in meetings {
+    for meeting in plan.meetings() {
         firsts.push(guess(bytes, meeting))?;
     }
     Ok(firsts)
 }
 
-// Whether the order file of these orders is just these bytes. No order file has 50,000 bytes.
+// Whether the order file of these orders is just these bytes.
 fn is_file(plan: &Plan, firsts: &[First], bytes: &[u8]) -> bool
     ensures { MatchBool result (bytes.now ≡ plan_orders plan.now firsts.now) (bytes.now ≢ plan_orders plan.now firsts.now) }
 {
-    // Lent memory of a fixed size, so that the comparison itself cannot fail for want of memory.
-    let mut scratch = [0u8; 50000];
+    // An array, so that the comparison itself cannot fail for want of memory.
+    let mut scratch = [0u8; ROOM_FOR_ORDERS];
+    // A `match`, since the length is within the buffer by what a written file promises.
     match write_orders(plan, firsts, &mut scratch) {
         Ok(len) => &scratch[..len] == bytes,
         Err(OrderFault::Short) => false,
@@ -117,7 +118,7 @@ fn is_file(plan: &Plan, firsts: &[First], bytes: &[u8]) -> bool
 pub fn read_orders(heap: Global, plan: &Plan, bytes: &[u8]) -> Result<Vec<First>, ReadFault>
     ensures { ReadsOrders result plan.now bytes.now }
 {
-    let firsts = guesses(heap, bytes, plan.meetings())?;
+    let firsts = guesses(heap, bytes, plan)?;
     if is_file(plan, firsts.as_slice(), bytes) {
         Ok(firsts)
     } else {

@@ -9,13 +9,16 @@ use crate::waits::{Wait, count_second, wait_of};
 use meetings::meet::First;
 use plans::plan::Plan;
 
+// No order file has as many bytes.
+pub const ROOM_FOR_ORDERS: usize = 50000;
+
 // The buffer is shorter than the file.
 #[derive(Clone, Copy, PartialEq, Eq, Debug)]
 pub enum OrderFault {
     Short,
 }
 
-// A number of 16 bits, high byte first. The place is passed beside the buffer: a struct of both would hold the `&mut`, and each clause would have to speak of the loan too.
+// A number of 16 bits, high byte first. The place is passed beside the buffer: contents and bodies are written in turns at places that are reckoned from counts, so a slice from each place on would be cut by the same number.
 fn put_word(out: &mut [u8], at: usize, n: u16)
     requires { at + 2 ≤ length out.old }
     ensures { out.new ≡ over out.old at (word_bytes n) }
@@ -40,7 +43,7 @@ struct Orders<'a> {
     firsts: &'a [First],
 }
 
-// Its loops go over the numbers of shuttles, and no list has an element for each.
+// Its loops go over the numbers of shuttles: by its number a shuttle's waits are found, and of its path nothing is asked.
 impl<'a> Orders<'a> {
     // How many shuttles the plan has.
     fn shuttles(&self) -> usize

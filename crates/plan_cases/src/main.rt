@@ -8,7 +8,7 @@
 use meetings::meet::First;
 use orders::read::read_orders;
 use orders::waits::plan_firsts;
-use orders::write::{OrderFault, write_orders};
+use orders::write::{OrderFault, ROOM_FOR_ORDERS, write_orders};
 use plans::plan::Plan;
 use plans::plan::opening::read_plan;
 use report::answer_text;
@@ -30,13 +30,14 @@ fn print_written(rt: &HostRuntime, plan: &Plan, out: &mut [u8]) -> anyhow::Resul
 }
 
 fn print_orders(rt: &HostRuntime, plan: &Plan, size: usize) -> anyhow::Result<()> {
-    let mut buffer = [170u8; 50000];
-    if size > buffer.len() {
+    if size > ROOM_FOR_ORDERS {
         return Ok(());
     }
-    print_written(rt, plan, &mut buffer[0..size])
+    let mut buffer = vec![in rt.alloc(); 170u8; size]?;
+    print_written(rt, plan, buffer.as_mut_slice())
 }
 
+// The words of orders are this program's own.
 fn print_firsts(rt: &HostRuntime, plan: &Plan, digits: &[u8]) -> anyhow::Result<()> {
     let heap = rt.alloc();
     let bytes = hex::decode(heap, digits)?;

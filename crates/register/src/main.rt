@@ -3,7 +3,7 @@
 
 use anyhow::anyhow;
 use orders::waits::plan_firsts;
-use orders::write::write_orders;
+use orders::write::{ROOM_FOR_ORDERS, write_orders};
 use plans::plan::Plan;
 use plans::plan::opening::read_plan;
 use report::{answer_text, orders_line};
@@ -13,14 +13,12 @@ use std::fs;
 fn save_orders(rt: &HostRuntime, plan: &Plan) -> anyhow::Result<()> {
     let heap = rt.alloc();
     let firsts = plan_firsts(heap, plan)?;
-    let mut buffer = [0u8; 50000];
-    let Ok(len) = write_orders(plan, firsts.as_slice(), &mut buffer) else {
-        return Err(anyhow!("no 16"));
-    };
-    if len > buffer.len() {
-        return Err(anyhow!("no 16"));
-    }
-    fs::write(rt, "orders.bin", &buffer[0..len])?;
+    let mut buffer = vec![in heap; 0u8; ROOM_FOR_ORDERS]?;
+    let len = write_orders(plan, firsts.as_slice(), buffer.as_mut_slice()).map_err(|_| anyhow!(
+        "no 16"
+    ))?;
+    buffer.truncate(len);
+    fs::write(rt, "orders.bin", buffer.as_slice())?;
     let line = orders_line(heap, plan.meetings().len(), len)?;
     print!(rt; "{line}")?;
     Ok(())

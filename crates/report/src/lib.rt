@@ -1,4 +1,4 @@
-// What the register prints. The lines are functions and no impls of `Display`, since the values are of types of other crates.
+// What the register prints. The lines are functions and no impls of `Display`: the values are of types of other crates, and those crates know nothing of what a program prints.
 #![tactic(auto)]
 
 ghost use Rattle.std.specs.Prelude.{◌≡◌, [], ◌∷◌, ◌++◌, length, IfOk, string_bytes, sum_by, OnOk};
@@ -113,7 +113,7 @@ fn add_paths(heap: Global, plan: &Plan, text: &mut String) -> Result<(), AllocEr
     Ok(())
 }
 
-// A line for each wait.
+// A line for each wait. One function for both kinds of lines would take a closure that allocates, and would be no shorter.
 fn add_waits(heap: Global, waits: &[Wait], text: &mut String) -> Result<(), AllocError>
     ensures { OnOk result (string_bytes text.new ≡ string_bytes text.old ++ wait_texts waits.now) }
 {

@@ -2,11 +2,11 @@
 ghost use Rattle.std.specs.Prelude.{◌≡◌, ◌≤◌, length};
 ghost use Rattle.traffic.specs.Plans.{named};
 
-use meetings::meet::First;
+use meetings::meet::{First, MOST_MEETINGS};
 use std::marker::Model;
 
 // How many meetings a plan may have.
-pub const MEETINGS: usize = 256;
+pub const MEETINGS: usize = MOST_MEETINGS;
 
 // Who goes first at each meeting, in memory of its own: nothing is allocated for them. A clause sees the list of the orders.
 #[derive(Drop)]
@@ -32,7 +32,7 @@ impl NamedOrders {
         ensures { result ≡ named firsts.now }
     {
         let mut orders = [None; MEETINGS];
-        // By the index: of `iter_mut().zip(..)` and `array::from_fn` the proof does not learn what the array holds in the end.
+        // By the index: `iter_mut().zip(..)` and `array::from_fn` were tried, and of them the proof does not learn what the array holds in the end.
         for (j, first) in firsts.iter().enumerate() {
             orders[j] = Some(*first);
         }

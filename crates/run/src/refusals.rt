@@ -21,6 +21,7 @@ pub enum Refusal {
     ShortBuffer,
 }
 
+// The conversions are written out, since derived ones (`thiserror`) have no clause that says what comes of each fault.
 impl From<PlanFault> for Refusal {
     ghost from_gives = { λ e r. r ≡ refusal.Plan e };
 

@@ -26,13 +26,14 @@ use std::alloc::{AllocError, Global};
 // The number of every run.
 const RUN: u32 = 7;
 
-// A run, and the plan file that it was opened with, which is empty before that.
+// A run, and the plan file that it was opened with, which is empty before that. What prints is a function of the runtime and the run, since a method would take the runtime just so.
 #[derive(Drop)]
 struct Case {
     run: Run,
     file: Vec<u8>,
 }
 
+// The letters of orders are this program's own, so they stand here and not at `First`.
 fn first_of(letter: u8) -> Option<First> {
     match letter {
         b'L' => Some(First::Lower),
@@ -75,7 +76,7 @@ fn shuttle_count(run: &Run) -> usize {
         .count()
 }
 
-// The number of stops of a shuttle, by the contents of a plan file.
+// The number of stops of a shuttle, by the contents of a plan file; read here, so that no crate under test is asked.
 fn stop_count(file: &[u8], shuttle: usize) -> usize {
     let at = shuttle.saturating_mul(4).saturating_add(6);
     let high = file.get(at).copied().unwrap_or(0);
@@ -83,6 +84,7 @@ fn stop_count(file: &[u8], shuttle: usize) -> usize {
     usize::from(u16::from_be_bytes([high, low]))
 }
 
+// As the console prints it, which is not under test here.
 fn print_refusal(rt: &HostRuntime, why: Refusal) -> anyhow::Result<()> {
     match why.number() {
         Some(n) => println!(rt; "no {n}")?,

@@ -20,7 +20,7 @@ pub enum PlanFault {
     Meetings(MeetingFault),
 }
 
-// The conversions are written out, since derived ones would not say in their contracts what comes of each fault.
+// The conversions are written out, since derived ones (`thiserror`) have no clause that says what comes of each fault.
 impl From<FileFault> for PlanFault {
     ghost from_gives = { λ e r. r ≡ File e };
 

@@ -20,6 +20,7 @@ pub enum EntryFault {
     Ring,
 }
 
+// Written out, since a derived conversion (`thiserror`) has no clause that says what comes of it.
 impl From<Ring> for EntryFault {
     ghost from_gives = { λ _ r. r ≡ fault.Ring };
 

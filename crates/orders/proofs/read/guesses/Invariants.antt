@@ -7,4 +7,4 @@ use Rattle.orders.proofs.read.guesses.Given as goal
 abbrev pub invariant-loop-meeting : goal.invariant-loop-meeting
 invariant-loop-meeting l =
     (length (vec_items l.firsts) ≡ l.meeting-index)
-    × ((j : ℕ) → j < l.meeting-index → Guessed l.bytes (get_or l.meetings j no_meeting) (get_or (vec_items l.firsts) j Lower))
+    × ((j : ℕ) → j < l.meeting-index → Guessed l.bytes (get_or l.meeting-items j no_meeting) (get_or (vec_items l.firsts) j Lower))
