@@ -31,6 +31,7 @@ pub(crate) struct Sweep<'a> {
     ghost keeps: { Known (scene_under scene) known ticks } by { known_prop (scene_under scene) known ticks },
 }
 
+// That a shuttle is the floor's is required where it is asked for: a type that holds the sweep beside the number would say no more, and each caller would make one.
 impl<'a> Sweep<'a> {
     // Only the stops that have been entered are known.
     pub(crate) fn new(scene: Scene<'a>) -> Sweep<'a>
@@ -59,6 +60,7 @@ impl<'a> Sweep<'a> {
         requires { at.shuttle < 32 }
         ensures { MatchOption result (known_in self.now.known at.shuttle ≤ at.stop) (λ tick. (at.stop < known_in self.now.known at.shuttle) × (tick ≡ numbers_in self.now.ticks at.shuttle at.stop)) }
     {
+        // An if: of `then` the proof did not close.
         if at.stop < self.known[at.shuttle] {
             Some(self.ticks[at.shuttle][at.stop])
         } else {

@@ -20,6 +20,7 @@ pub(crate) struct Scene<'a> {
     pub(crate) orders: &'a [Option<First>],
 }
 
+// That a shuttle, a stop or a meeting is the floor's is required where it is asked for: a type that holds the scene beside the number would say no more, and each caller would make one.
 impl Scene<'_> {
     // What a stop waits for at a meeting, if it waits there.
     pub(crate) fn awaited(&self, meeting: usize, at: At) -> Option<At>
@@ -76,13 +77,8 @@ impl Scene<'_> {
     pub(crate) fn moved_word(&self, standing: u32) -> u32
         ensures { result ≡ word_of_moved (paths_under self.now) self.now.orders.now standing (records_in self.now.floor.now) }
     {
-        let mut word = 0;
-        // The range is of shuttle numbers: each is a bit of the word.
-        for shuttle in 0..self.floor.count() {
-            if self.moves(standing, shuttle) {
-                word += 1 << shuttle;
-            }
-        }
-        word
+        (0..self.floor.count())
+            .filter(|shuttle| self.moves(standing, *shuttle))
+            .fold(0, |word, shuttle| word | 1 << shuttle)
     }
 }

@@ -93,6 +93,7 @@ impl Shuttles {
         ensures { Entered self.now.records.items result }
     {
         let mut entered = [1; SHUTTLES];
+        // An index: of `iter_mut().zip(..)` the proof did not close, since a loop's invariant can not name an array that is lent; the array has room for any plan, since entry ticks allocate no memory.
         for (shuttle, one) in self.records.iter().enumerate() {
             entered[shuttle] = one.stop + 1;
         }

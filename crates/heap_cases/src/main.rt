@@ -48,15 +48,14 @@ fn take_one(rt: &HostRuntime, numbers: &mut BoundedHeap<'_, Numbered>) -> anyhow
 fn work_words(rt: &HostRuntime, memory: &mut [Numbered], line: &str) -> anyhow::Result<()> {
     print!(rt; "answers")?;
     let mut numbers = BoundedHeap::new(memory);
-    let mut place = 0u32;
-    for word in line.split_whitespace() {
+    for (place, word) in line.split_whitespace().enumerate() {
         if word == "-" {
             take_one(rt, &mut numbers)?;
         } else {
             let key = word.parse::<u32>()?;
+            let place = u32::try_from(place)?;
             put_one(rt, &mut numbers, Numbered { key, place })?;
         }
-        place = place.wrapping_add(1);
     }
     while take_one(rt, &mut numbers)? {}
     println!(rt; "")?;
@@ -69,6 +68,7 @@ fn work(rt: &HostRuntime) -> anyhow::Result<()> {
         if line.as_str().starts_with('#') {
             println!(rt; "{line}")?;
         } else {
+            // An array, as a caller lends it that allocates nothing.
             let mut memory = [Numbered { key: 0, place: 0 }; 256];
             work_words(rt, &mut memory, line.as_str())?;
         }

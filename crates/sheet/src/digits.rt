@@ -4,7 +4,8 @@ ghost use Rattle.run.specs.Writes.{Fits};
 ghost use Rattle.sheet.specs.Digits.{digits};
 
 // Writes the digits of a number into the front of a buffer, and answers how many there are.
-// It is no `write!`, which takes a text or a writer: the sheet goes into lent memory. The division gives the last digit first, so the call writes the others before it.
+// It is no library call: `write!` takes a text or a writer and `itoa` formats into a buffer of its own, while the sheet goes into lent memory.
+// The division gives the last digit first, so the call writes the others before it.
 pub(crate) fn put_number(out: &mut [u8], n: u32) -> usize
     requires { length (digits n) ≤ length out.old }
     ensures { Fits (digits n) result out.old out.new }

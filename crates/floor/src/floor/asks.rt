@@ -28,9 +28,8 @@ impl Floor {
     {
         let ticks = self.entry_ticks(orders)?;
         let mut arrivals = [0; SHUTTLES];
-        // The range is of shuttle numbers: each names a path, and a row in both arrays.
-        for shuttle in 0..self.count() {
-            arrivals[shuttle] = ticks[shuttle][self.stop_count(shuttle) - 1];
+        for (shuttle, path) in self.plan.paths().iter().enumerate() {
+            arrivals[shuttle] = ticks[shuttle][path.stops.len() - 1];
         }
         Ok(arrivals)
     }

@@ -79,6 +79,7 @@ impl Floor {
         ensures { Carried (fault_of_hold (paths_in self.old) (records_in self.old) shuttle ticks) tt (after_hold (records_in self.old) shuttle ticks) result self.old self.new }
     {
         self.check_hold(shuttle, ticks)?;
+        // A cast: the longest hold is 4,095 and no type's greatest number, so a `try_from` would test a second bound, and that test could not fail.
         self.shuttles.set_hold(shuttle, ticks as u16);
         Ok(())
     }

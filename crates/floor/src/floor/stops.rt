@@ -65,14 +65,10 @@ impl Floor {
         ensures stop { IfSome result (λ next. StopOf (paths_in self.now) next) }
     {
         let stop = at.stop + 1;
-        if stop < self.stop_count(at.shuttle) {
-            Some(At {
-                shuttle: at.shuttle,
-                stop,
-            })
-        } else {
-            None
-        }
+        (stop < self.stop_count(at.shuttle)).then_some(At {
+            shuttle: at.shuttle,
+            stop,
+        })
     }
 
     // The numbers of a stop's meetings.
