@@ -23,7 +23,7 @@ fn work(rt: &HostRuntime) -> anyhow::Result<()> {
     let mut run = Run::new();
     open(rt, &mut run)?;
     let mut input = BufReader::new(rt.alloc(), rt.stdin())?;
-    // A loop over input has to have an end that does not depend on it.
+    // `rt.lines` would give lines without their ends, which are judged here; so the loop reads, up to a count that no input reaches.
     for _ in 0..u64::MAX {
         let mut line = Vec::new(rt.alloc());
         if input.read_until(b'\n', &mut line)? == 0 {

@@ -32,6 +32,7 @@ pub(crate) struct Sweep<'a> {
 }
 
 // That a shuttle is the floor's is required where it is asked for: a type that holds the sweep beside the number would say no more, and each caller would make one.
+// Each method that changes the sweep says that its scene stays, which a caller cannot see from a `&mut self`.
 impl<'a> Sweep<'a> {
     // Only the stops that have been entered are known.
     pub(crate) fn new(scene: Scene<'a>) -> Sweep<'a>

@@ -17,7 +17,7 @@ fn digit_count(bytes: &[u8]) -> usize
         .count()
 }
 
-// What at most ten digits are worth. The library's `parse` takes a text, and a line is bytes that need be none.
+// What at most ten digits are worth. By hand: for `parse` they would be made a text first, with two failures that cannot happen.
 fn digits_worth(digits: &[u8]) -> u64
     requires few { length digits.now ≤ 10 }
     requires all { Digits digits.now }

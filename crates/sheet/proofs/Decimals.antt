@@ -7,14 +7,14 @@ use Rattle.sheet.specs.Digits.{digits}
 use Rattle.sheet.specs.Laws.{DigitsReadBack, NoZeroLeads}
 use Rattle.sheet.proofs.Numbers.{digits_one, digits_step}
 
-same : (n : ℕ) → n < 2 ^ 32 → digits n ≡ decimal n
-same n small = decimal_by_steps (λ m ds. m < 2 ^ 32 → digits m ≡ ds)
+pub digits_decimal : (n : ℕ) → n < 2 ^ 32 → digits n ≡ decimal n
+digits_decimal n small = decimal_by_steps (λ m ds. m < 2 ^ 32 → digits m ≡ ds)
     (λ m lt _. digits_one m lt ∙ ap (λ d. (48 + d) ∷ []) (omega (arith, lt)))
     (λ m ds le h s. digits_step m s le ∙ ap (λ (l : List ℕ). l ++ (48 + m % 10) ∷ []) (h (omega (arith, s))))
     n (omega (arith, small)) small
 
 pub digits_read_back : DigitsReadBack
-digits_read_back n small = subst (λ (l : List ℕ). Writes l n) (sym (same n small)) (decimal_writes n small)
+digits_read_back n small = subst (λ (l : List ℕ). Writes l n) (sym (digits_decimal n small)) (decimal_writes n small)
 
 pub no_zero_leads : NoZeroLeads
-no_zero_leads n pos small = subst (λ (l : List ℕ). 48 < get_or l 0 0) (sym (same n small)) (first_decimal n pos (omega (arith, small)))
+no_zero_leads n pos small = subst (λ (l : List ℕ). 48 < get_or l 0 0) (sym (digits_decimal n small)) (first_decimal n pos (omega (arith, small)))

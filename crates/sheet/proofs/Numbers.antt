@@ -1,11 +1,9 @@
 -- Digits, one after another.
-use Rattle.std.proofs.Common.{◌≡◌, ℕ, zero, suc, ◌+◌, ◌*◌, ◌/◌, ◌%◌, ◌^◌, ◌<◌, ◌≤◌, Some, None, Option, IfNone, IfSome, unwrap_or, List, [], ◌∷◌, ◌++◌, length, set, sym, ap, ◌∙◌, subst, inl, inr, arith}
+use Rattle.std.proofs.Common.{◌≡◌, ℕ, zero, suc, ◌+◌, ◌*◌, ◌/◌, ◌%◌, ◌^◌, ◌<◌, ◌≤◌, Some, None, Option, IfNone, IfSome, unwrap_or, List, [], ◌∷◌, ◌++◌, length, sym, ap, ◌∙◌, inl, inr, arith}
 use Rattle.std.proofs.lemmas.List.{length_push}
 use Rattle.std.proofs.Math.Nat.{pow-succ', one-le-pow}
 use Rattle.std.proofs.lemmas.Bool.{cases_lt, lt-ltb, le-ltb, cond-true, cond-false}
-use Rattle.run.specs.Writes.{Fits}
 use Rattle.sheet.specs.Digits.{digits_in, digits}
-use Rattle.sheet.proofs.Fitting.{fits_none, fits_byte, fits_long}
 
 -- ten times itself so often
 abbrev pub tens : ℕ → ℕ
@@ -34,27 +32,6 @@ digits_one n lt = few_digits 9 n lt
 pub digits_step : (n : ℕ) → n < 2 ^ 32 → 10 ≤ n → digits n ≡ digits (n / 10) ++ (48 + n % 10) ∷ []
 unfolding digits
 digits_step n small le = more_digits 9 n le ∙ ap (λ (l : List ℕ). l ++ (48 + n % 10) ∷ []) (enough 8 9 (n / 10) (omega (arith, small)) (omega (arith, small)))
-
--- all digits but the last, and a buffer whose front has them
-pub record Begun (n : ℕ) (old : List ℕ) (at : ℕ) (new : List ℕ) : Type 0 where
-  pub front : List ℕ
-  pub whole : digits n ≡ front ++ (48 + n % 10) ∷ []
-  pub fits : Fits front at old new
-
-pub begun_one : (n : ℕ) (old : List ℕ) → n < 10 → Begun n old 0 old
-begun_one n old lt = record { front = []; whole = digits_one n lt; fits = fits_none old }
-
-pub begun_more : (n : ℕ) (old : List ℕ) (at : ℕ) (new : List ℕ) → n < 2 ^ 32 → 10 ≤ n → Fits (digits (n / 10)) at old new → Begun n old at new
-begun_more n old at new small le f = record { front = digits (n / 10); whole = digits_step n small le; fits = f }
-
-module _ (n : ℕ) (old : List ℕ) (at : ℕ) (new : List ℕ) (b : Begun n old at new) (room : length (digits n) ≤ length old) where
-  pub last_within : at < length new
-  last_within =
-      let long : length (digits n) ≡ length b.front + 1 = ap (λ (l : List ℕ). length l) b.whole ∙ length_push b.front (48 + n % 10) in
-      omega (arith, long, room, b.fits.count, fits_long b.front at old new b.fits (omega (arith, long, room, b.fits.count)))
-
-  pub number_fits : Fits (digits n) (at + 1) old (set new at (48 + n % 10))
-  number_fits = subst (λ (l : List ℕ). Fits l (at + 1) old (set new at (48 + n % 10))) (sym b.whole) (fits_byte b.front at old new b.fits (48 + n % 10) last_within)
 
 few_in : (k n : ℕ) → length (digits_in k n) ≤ k
 few_in zero n = omega arith
