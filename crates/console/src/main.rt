@@ -2,12 +2,27 @@
 #![tactic(auto)]
 
 use desk::{carry_out, refused};
+use lines::replies::Reply;
 use run::run::Run;
 use std::fs;
 use std::io::{BufRead, BufReader};
 
 // The number of the console's run.
 const RUN: u32 = 1;
+
+// Room for any sheet: 32 lines of at most 22 bytes.
+const SHEET_ROOM: usize = 704;
+
+// A sheet is printed above its reply.
+fn print_reply(rt: &HostRuntime, reply: Reply, sheet: &[u8]) -> anyhow::Result<()> {
+    if let Reply::Sheet { bytes } = reply {
+        let lines = sheet.get(..bytes).unwrap_or(sheet);
+        let text = str::from_utf8(lines)?;
+        print!(rt; "{text}")?;
+    }
+    println!(rt; "{reply}")?;
+    Ok(())
+}
 
 fn open(rt: &HostRuntime, run: &mut Run) -> anyhow::Result<()> {
     let heap = rt.alloc();
@@ -29,8 +44,9 @@ fn work(rt: &HostRuntime) -> anyhow::Result<()> {
         if input.read_until(b'\n', &mut line)? == 0 {
             break;
         }
-        let reply = carry_out(&mut run, line.as_slice());
-        println!(rt; "{reply}")?;
+        let mut sheet = [0u8; SHEET_ROOM];
+        let reply = carry_out(&mut run, line.as_slice(), &mut sheet);
+        print_reply(rt, reply, &sheet)?;
     }
     Ok(())
 }

@@ -5,11 +5,12 @@ ghost use Rattle.lines.specs.Lines.{command_of, command_text, ReadsExactly};
 use crate::numbers::{last_number, last_two_numbers};
 use std::alloc::{AllocError, Global};
 
-// Hold a shuttle for some ticks, or tick with a standing word.
+// Hold a shuttle for some ticks, tick with a standing word, or show the sheet.
 #[derive(Clone, Copy, PartialEq, Eq, Debug)]
 pub enum Command {
     Hold { shuttle: u32, ticks: u32 },
     Tick { standing: u32 },
+    Sheet,
 }
 
 // The command of a whole line, its end included; none where the line is bad. It is no `TryFrom`: a bad line has no error to say more with.
@@ -29,6 +30,10 @@ pub fn read_line(line: &[u8]) -> Option<Command>
             let standing = last_number(rest)?;
             Some(Command::Tick { standing })
         }
+        'S' => match rest {
+            [b'\n'] => Some(Command::Sheet),
+            _ => None,
+        },
         _ => None,
     }
 }
@@ -42,5 +47,6 @@ pub fn command_line(heap: Global, command: Command) -> Result<String, AllocError
     match command {
         Command::Hold { shuttle, ticks } => format!(in heap; "H {shuttle} {ticks}\n"),
         Command::Tick { standing } => format!(in heap; "T {standing}\n"),
+        Command::Sheet => String::from_str(heap, "S\n"),
     }
 }

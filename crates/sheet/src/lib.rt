@@ -26,3 +26,6 @@ pub fn dues_stand() -> bool
 {
     true
 }
+
+#[cfg(test)]
+mod tests;

@@ -25,3 +25,6 @@ returns-in_ok-standing-in-T-clause-exact c =
     let is = begins c.args.line.now 84 (search rules) (search rules) in
     let was = sym c.last_number.ensures ∙ c.in_ok-standing-in-T.was in
     exactly _ _ (search rules)
+
+pub returns-in-10-clause-exact : goal.returns-in-10-clause-exact
+returns-in-10-clause-exact c = exactly _ _ (search rules)
