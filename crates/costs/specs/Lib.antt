@@ -1,0 +1,4 @@
+pub mod Figures
+pub mod Laws
+pub mod Layers
+pub mod Totals
