@@ -37,6 +37,14 @@ impl<'a, T: TotalOrder + Copy> BoundedHeap<'a, T> {
         BoundedHeap { memory, len: 0 }
     }
 
+    // How many elements it holds.
+    pub fn len(&self) -> usize
+        ensures count { result ≡ length self.now.row }
+        ensures within { result ≤ self.now.room }
+    {
+        self.len
+    }
+
     // Whether it holds none.
     pub fn is_empty(&self) -> bool
         ensures { result ≡ (length self.now.row == 0) }
@@ -57,6 +65,14 @@ impl<'a, T: TotalOrder + Copy> BoundedHeap<'a, T> {
         ensures { IsPermutation result.now self.now.row }
     {
         &self.memory[..self.len]
+    }
+
+    // Lets all elements go.
+    pub fn clear(&mut self)
+        ensures row { self.new.row ≡ [] }
+        ensures room { self.new.room ≡ self.old.room }
+    {
+        self.len = 0;
     }
 
     // Puts an element into its place of the row; a full heap stays as it is.
