@@ -1,14 +1,14 @@
 // A heap that has the memory it was lent, and keeps its order.
-ghost use Rattle.std.specs.Prelude.{◌≡◌, ◌≤◌, ◌==◌, [], length};
+ghost use Rattle.std.specs.Prelude.{◌≡◌, ◌==◌, [], length};
 ghost use Rattle.std.specs.List.Sorted.{IsPermutation};
-ghost use Rattle.heap.specs.Bounded.{PutsIn, TakesOut};
+ghost use Rattle.heap.specs.Bounded.{PutsIn, TakesOut, capacity};
 ghost use Rattle.heap.specs.Rows.{no_later};
 
 use crate::heap::{Full, put, take_first};
 use crate::order::TotalOrder;
 use std::marker::Model;
 
-// The first `len` places of the memory hold a heap. A clause sees its elements in their order, and for how many there is room.
+// The first `len` places of the memory hold a heap. A clause sees its elements in their order, and how many more it has room for.
 #[derive(Drop)]
 pub struct BoundedHeap<'a, T: TotalOrder + Copy> {
     memory: &'a mut [T],
@@ -32,15 +32,14 @@ impl<'a, T: TotalOrder + Copy> BoundedHeap<'a, T> {
     // An empty heap.
     pub fn new(memory: &'a mut [T]) -> BoundedHeap<'a, T>
         ensures row { result.row ≡ [] }
-        ensures room { result.room ≡ length memory.old }
+        ensures free { result.free ≡ length memory.old }
     {
         BoundedHeap { memory, len: 0 }
     }
 
     // How many elements it holds.
     pub fn len(&self) -> usize
-        ensures count { result ≡ length self.now.row }
-        ensures within { result ≤ self.now.room }
+        ensures { result ≡ length self.now.row }
     {
         self.len
     }
@@ -54,8 +53,7 @@ impl<'a, T: TotalOrder + Copy> BoundedHeap<'a, T> {
 
     // Whether no room is left.
     pub fn is_full(&self) -> bool
-        ensures full { result ≡ (length self.now.row == self.now.room) }
-        ensures within { length self.now.row ≤ self.now.room }
+        ensures { result ≡ (self.now.free == 0) }
     {
         self.len == self.memory.len()
     }
@@ -70,7 +68,7 @@ impl<'a, T: TotalOrder + Copy> BoundedHeap<'a, T> {
     // Lets all elements go.
     pub fn clear(&mut self)
         ensures row { self.new.row ≡ [] }
-        ensures room { self.new.room ≡ self.old.room }
+        ensures free { self.new.free ≡ capacity self.old }
     {
         self.len = 0;
     }
