@@ -1,0 +1,3 @@
+pub mod Layers
+pub mod Placing
+pub mod Stacked

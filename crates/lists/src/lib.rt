@@ -1,0 +1,24 @@
+// Waiting lists of nodes.
+#![tactic(auto)]
+
+ghost use Rattle.std.specs.Prelude.{IsTrue};
+ghost use Rattle.lists.specs.Nodes.{NodesOrder};
+
+pub mod dive;
+pub mod node;
+pub mod node_heap;
+pub mod stack;
+pub mod waiting;
+
+use crate::node::Node;
+
+// The order of nodes is by bound, then by decided, then by turned.
+pub fn nodes_stand() -> bool
+    ensures order { NodesOrder ⟦<Node as Ord>⟧.cmp }
+    ensures answer { IsTrue result }
+{
+    true
+}
+
+#[cfg(test)]
+mod tests;

@@ -1,0 +1,17 @@
+// What waits to be searched.
+ghost use Rattle.std.proofs.Common.{rules};
+
+use heap::order::TotalOrder;
+
+// Some passing orders at open meetings, and a bound that they cost at least: bit j of `decided` says whether the j-th open meeting is decided, and bit j of `turned` whether its order is turned.
+// Its order is by bound, then by decided, then by turned.
+#[derive(Clone, Copy, Debug, Default, PartialEq, Eq, PartialOrd, Ord)]
+pub struct Node {
+    pub bound: u64,
+    pub decided: u64,
+    pub turned: u64,
+}
+
+impl TotalOrder for Node {
+    ghost antisymmetric = { Prim.search rules };
+}

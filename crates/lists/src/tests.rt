@@ -1,0 +1,122 @@
+// Layers over layers, and lists at their ends. The expected values were worked out by hand.
+ghost use Rattle.std.specs.Prelude.{◌≡◌, ◌+◌, length, MatchResult};
+
+use crate::dive::Dive;
+use crate::node::Node;
+use crate::node_heap::NodeHeap;
+use crate::stack::Stack;
+use crate::waiting::WaitingList;
+use heap::heap::Full;
+
+fn node(bound: u64) -> Node {
+    Node {
+        bound,
+        decided: 0,
+        turned: 0,
+    }
+}
+
+// Puts two nodes; a list with room for fewer is full then.
+fn put_two<L: WaitingList>(list: &mut L, first: Node, second: Node) -> Result<(), Full>
+    ensures { MatchResult result (λ _. length (L.nodes list.new) ≡ length (L.nodes list.old) + 2) (λ _. length (L.nodes list.new) ≡ L.capacity list.old) }
+{
+    list.put(first)?;
+    list.put(second)
+}
+
+// Puts nodes with bounds from 0 on until one is refused, and answers how many were put.
+fn fill<L: WaitingList>(list: &mut L) -> u64 {
+    for pair in 0..100 {
+        if put_two(list, node(2 * pair), node(2 * pair + 1)).is_err() {
+            break;
+        }
+    }
+    list.len()
+}
+
+// The bounds of the next three nodes, and how many there are then.
+fn next_three<L: WaitingList>(list: &mut L) -> ([Option<u64>; 3], u64) {
+    let three = [list.take(), list.take(), list.take()];
+    (three.map(|taken| taken.map(|node| node.bound)), list.len())
+}
+
+#[test]
+fn dives_over_a_heap(rt: HostRuntime) {
+    let mut memory = [node(0); 3];
+    let mut list = Dive::new(Dive::new(NodeHeap::new(&mut memory)));
+    assert_eq!(rt; list.len(), 0);
+    assert_eq!(rt; fill(&mut list), 19);
+    assert_eq!(rt; next_three(&mut list), ([Some(7), Some(6), Some(5)], 16));
+    for _ in 0..5 {
+        list.take();
+    }
+    assert_eq!(rt; next_three(&mut list), ([Some(15), Some(14), Some(13)], 8));
+    for _ in 0..5 {
+        list.take();
+    }
+    assert_eq!(rt; next_three(&mut list), ([Some(16), Some(17), Some(18)], 0));
+    assert_eq!(rt; next_three(&mut list), ([None; 3], 0));
+}
+
+#[test]
+fn dive_over_a_stack(rt: HostRuntime) {
+    let mut memory = [node(0); 2];
+    let mut list = Dive::new(Stack::new(&mut memory));
+    assert_eq!(rt; fill(&mut list), 10);
+    for _ in 0..7 {
+        list.take();
+    }
+    assert_eq!(rt; next_three(&mut list), ([Some(0), Some(9), Some(8)], 0));
+    assert_eq!(rt; fill(&mut list), 10);
+    list.clear();
+    assert_eq!(rt; next_three(&mut list), ([None; 3], 0));
+}
+
+#[test]
+fn equal_bounds(rt: HostRuntime) {
+    let mut memory = [node(0); 4];
+    let mut list = NodeHeap::new(&mut memory);
+    for (decided, turned) in [(2, 0), (1, 1), (0, 2), (1, 0)] {
+        assert!(rt;
+            list.put(Node {
+                bound: 5,
+                decided,
+                turned
+            })
+            .is_ok()
+        );
+    }
+    assert!(rt; list.put(node(0)) == Err(Full));
+    assert!(rt;
+        list.take()
+            == Some(Node {
+                bound: 5,
+                decided: 0,
+                turned: 2
+            })
+    );
+    assert!(rt;
+        list.take()
+            == Some(Node {
+                bound: 5,
+                decided: 1,
+                turned: 0
+            })
+    );
+    assert!(rt;
+        list.take()
+            == Some(Node {
+                bound: 5,
+                decided: 1,
+                turned: 1
+            })
+    );
+    assert!(rt;
+        list.take()
+            == Some(Node {
+                bound: 5,
+                decided: 2,
+                turned: 0
+            })
+    );
+}
