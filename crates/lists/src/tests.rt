@@ -40,9 +40,23 @@ fn next_three<L: WaitingList>(list: &mut L) -> ([Option<u64>; 3], u64) {
     (three.map(|taken| taken.map(|node| node.bound)), list.len())
 }
 
+// Through two dives over a heap, a node that was put is the first to be taken, and a cleared list has none: the clauses of the layers show it.
+fn put_take_clear(memory: &mut [Node], node: Node) -> (Option<Node>, u64)
+    ensures first { result.0 ≡ Some node }
+    ensures none { result.1 ≡ 0 }
+{
+    let mut list = Dive::new(Dive::new(NodeHeap::new(memory)));
+    let _ = list.put(node);
+    let first = list.take();
+    list.clear();
+    (first, list.len())
+}
+
 #[test]
 fn dives_over_a_heap(rt: HostRuntime) {
     let mut memory = [node(0); 3];
+    let seven = node(7);
+    assert!(rt; put_take_clear(&mut memory, seven) == (Some(seven), 0));
     let mut list = Dive::new(Dive::new(NodeHeap::new(&mut memory)));
     assert_eq!(rt; list.len(), 0);
     assert_eq!(rt; fill(&mut list), 19);

@@ -8,17 +8,18 @@ use heap::heap::Full;
 
 // A row of nodes and a fixed capacity. Where a node is put is the list's own rule of place.
 pub trait WaitingList {
+    // The row, the first node in front.
     ghost nodes: { Self → List Node };
 
     ghost capacity: { Self → ℕ };
 
-    // The rule of place: whether a list may put a node at a place, and is the second list then.
+    // The rule of place: whether the first list may put the node at the place, and is the second list then. It may go by more than the row, as by how many nodes a layer keeps; so what becomes of a list is followed at takes and clearing too.
     ghost puts: { Self → Node → ℕ → Self → Type 0 };
 
-    // Whether a list is the second list after a take.
+    // Whether the first list is the second one after a take.
     ghost takes: { Self → Self → Type 0 };
 
-    // Whether a list is the second list after it was cleared.
+    // Whether the first list is the second one after it was cleared.
     ghost clears: { Self → Self → Type 0 };
 
     // Takes the first node out; none of an empty list.
