@@ -16,10 +16,10 @@ insert_behind xs ys k x =
 module _ {L U F : Type 0} (nodes : L → List Node) (room : L → ℕ) (puts : L → Node → ℕ → L → Type 0) where
   -- a put into a layer of a list
   abbrev pub LayerPuts : Node → Result U F → Layered L → Layered L → Type 0
-  LayerPuts x r old new = Puts (λ (d : Layered L). d.kept.row ++ nodes d.below) (λ (d : Layered L). capacity d.kept + room d.below) (λ k d. DivePuts puts old x k d) x r old new
+  LayerPuts x r old new = Puts (λ (d : Layered L). d.kept.row ++ nodes d.below) (λ (d : Layered L). capacity d.kept + room d.below) (DivePuts puts) x r old new
 
   layered : (kept : Holding Node) → kept.free ≡ 0 → (x : Node) (r : Result U F) (old new : L)
-      → Puts nodes room (λ k l. puts old x k l) x r old new
+      → Puts nodes room puts x r old new
       → LayerPuts x r (record { kept = kept; below = old }) (record { kept = kept; below = new })
   layered kept none x (Ok u) old new p =
       let (fits, entered) = p in
@@ -31,7 +31,7 @@ module _ {L U F : Type 0} (nodes : L → List Node) (room : L → ℕ) (puts : L
   layered kept none x (Err f) old new p = (omega (arith, p.0, none, length-append kept.row (nodes old)), ap (λ l. record { kept = kept; below = l }) p.1)
 
   pub put_below : (kept : Holding Node) → kept.free ≡ 0 → (x : Node) (r : Result U F) (old new : L) (d : Layered L) → record { kept = kept; below = old } ≡ d
-      → Puts nodes room (λ k l. puts old x k l) x r old new
+      → Puts nodes room puts x r old new
       → LayerPuts x r d (record { kept = kept; below = new })
   put_below kept none x r old new d is p =
       let P : Layered L → Type 0 = λ d. LayerPuts x r d (record { kept = kept; below = new }) in

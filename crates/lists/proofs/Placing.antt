@@ -19,7 +19,7 @@ by_fields a b = grind (arith, nat_tests)
 order_by_fields : no_later (λ (x y : Node). ordering_then (nat_cmp x.bound y.bound) (ordering_then (nat_cmp x.decided y.decided) (nat_cmp x.turned y.turned))) ≡ node_le
 order_by_fields = λ i a b. by_fields a b i
 
-put_ascending : {U F : Type 0} (x : Node) (r : Result U F) (old new : Holding Node) → PutsIn node_le x r old new → Puts (λ (h : Holding Node). h.row) capacity (λ k h. HeapPuts old x k h) x r old new
+put_ascending : {U F : Type 0} (x : Node) (r : Result U F) (old new : Holding Node) → PutsIn node_le x r old new → Puts (λ (h : Holding Node). h.row) capacity HeapPuts x r old new
 put_ascending x (Ok u) old new p =
     let k = place node_le x old.row in
     let at = insert-at-place node_le x old.row in
@@ -38,7 +38,7 @@ module _ {U F : Type 0} (x : Node) (r : Result U F) (old new : Holding Node) (p 
   by_nodes : PutsIn node_le x r old new
   by_nodes = let P : (Node → Node → Bool) → Type 0 = λ le. PutsIn le x r old new in subst P order_by_fields p
 
-  pub placed : Puts (λ (h : Holding Node). h.row) capacity (λ k h. HeapPuts old x k h) x r old new
+  pub placed : Puts (λ (h : Holding Node). h.row) capacity HeapPuts x r old new
   placed = put_ascending x r old new by_nodes
 
   pub size : capacity new ≡ capacity old

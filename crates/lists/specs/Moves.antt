@@ -6,13 +6,10 @@ use Rattle.std.specs.List.{insert}
 abbrev pub Takes : {X : Type 0} → List X → Option X → List X → Type 0
 Takes old r new = MatchOption r ((old ≡ []) × (new ≡ [])) (λ x. old ≡ x ∷ new)
 
--- x is set in at a place that the rule allows, the others keeping their order
-abbrev pub Enters : {X : Type 0} → (ℕ → Type 0) → X → List X → List X → Type 0
-Enters allows x old new = (k : ℕ) × (k ≤ length old) × allows k × (new ≡ insert old k x)
-
--- x enters the row, which was shorter than the capacity; or it was as long, and the whole list stays as it is
-abbrev pub Puts : {L X U F : Type 0} → (L → List X) → (L → ℕ) → (ℕ → L → Type 0) → X → Result U F → L → L → Type 0
-Puts row capacity allows x r old new =
+-- x is set into the row, which was shorter than the capacity, at a place that the rule allows, the others keeping their order;
+-- or the row was as long as the capacity, and the whole list stays as it is
+abbrev pub Puts : {L X U F : Type 0} → (L → List X) → (L → ℕ) → (L → X → ℕ → L → Type 0) → X → Result U F → L → L → Type 0
+Puts row capacity rule x r old new =
     MatchResult r
-    (λ _. (length (row old) < capacity old) × Enters (λ k. allows k new) x (row old) (row new))
+    (λ _. (length (row old) < capacity old) × ((k : ℕ) × (k ≤ length (row old)) × rule old x k new × (row new ≡ insert (row old) k x)))
     (λ _. (length (row old) ≡ capacity old) × (new ≡ old))

@@ -30,7 +30,7 @@ pub trait WaitingList {
 
     // Puts a node at a place that the list's rule allows; a full list stays as it is.
     fn put(&mut self, node: Node) -> Result<(), Full>
-        ensures placed { Puts nodes capacity (λ k new. puts self.old node k new) node result self.old self.new }
+        ensures placed { Puts nodes capacity puts node result self.old self.new }
         ensures size { capacity self.new ≡ capacity self.old };
 
     // Lets all nodes go.
