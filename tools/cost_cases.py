@@ -1,7 +1,7 @@
 #!/usr/bin/env python3
 """Writes the cases of crates/cost_cases: stdin (figures and arrivals) and stdout (the totals that have to be printed).
 
-Totals are reckoned over all arrivals at once where they cannot pass their ends, and most cases at the ends are stated by hand."""
+Drawn totals come from a sum or a maximum over all arrivals; none of them reaches 2 ** 64. The cases of one step are stated by hand."""
 import pathlib, random
 
 HERE = pathlib.Path(__file__).resolve().parent.parent / "crates" / "cost_cases"

@@ -93,7 +93,8 @@ def lines(rng):
         ends = [(GREATEST, GREATEST, GREATEST), (0, GREATEST, 0), (0, 0, GREATEST), (GREATEST, 0, 0), (0, 0, 0)]
         yield "%s, numbers at their ends" % name, name, 5, puts(ends)
         yield "%s, taken from nothing" % name, name, 3, ["-", "?", "-", "2.0.0", "-", "-", "x", "-"]
-        yield "%s, a list below that is full and then has room" % name, name, 2, puts(rising[:KEPT * dives + 2]) + ["8.8.8", "-", "-", "-", "7.7.7", "6.6.6", "5.5.5", "4.4.4", "?"]
+        full = puts([(bound, 0, 0) for bound in range(KEPT * dives + 2)])
+        yield "%s, a list below that is full and then has room" % name, name, 2, full + ["8.8.8", "-", "-", "-", "7.7.7", "6.6.6", "5.5.5", "4.4.4", "?"]
         for turn in range(4):
             yield "%s, drawn %d" % (name, turn), name, (3, 10, 40, 256)[turn], drawn(rng, 120)
 

@@ -2,7 +2,7 @@
 use Rattle.std.specs.Prelude.{ℕ, ◌^◌, ◌<◌, ◌≤◌, min, List}
 use Rattle.std.proofs.Common.{arith}
 use Rattle.std.proofs.Math.Nat.{mul-le-mul_right}
-use Rattle.costs.specs.Figures.{figure, past, weighed}
+use Rattle.costs.specs.Figures.{figure, ticks_past, weighed_arrival}
 use Rattle.costs.specs.Laws.{LaterNeverLess, GreaterNeverLess, GivesTotals}
 
 -- For each shuttle, a later arrival is handed on no earlier, and no arrival is handed on later than the greatest one.
@@ -19,8 +19,8 @@ layer_greater changed next h g t u shuttle arrival u_fits fits le = g t u shuttl
 pub layer_fits : (changed : ℕ → ℕ → ℕ) (start : ℕ) (next : ℕ → ℕ → ℕ → ℕ) → HandsOn changed → GivesTotals start next → GivesTotals start (λ total shuttle arrival. next total shuttle (changed shuttle arrival))
 layer_fits changed start next h f = (f.0, λ total shuttle arrival total_fits fits. f.1 total shuttle (changed shuttle arrival) total_fits (h.fits shuttle arrival fits))
 
-pub past_hands_on : (dues : List ℕ) → HandsOn (λ shuttle arrival. past (figure dues shuttle) arrival)
+pub past_hands_on : (dues : List ℕ) → HandsOn (λ shuttle arrival. ticks_past (figure dues shuttle) arrival)
 past_hands_on dues = record { later = λ shuttle a b le. omega (arith, le); fits = λ shuttle a fits. omega (arith, fits) }
 
-pub weighed_hands_on : (weights : List ℕ) → HandsOn (λ shuttle arrival. weighed (figure weights shuttle) arrival)
+pub weighed_hands_on : (weights : List ℕ) → HandsOn (λ shuttle arrival. weighed_arrival (figure weights shuttle) arrival)
 weighed_hands_on weights = record { later = λ shuttle a b le. omega (arith, mul-le-mul_right (min (figure weights shuttle) 1000) le); fits = λ shuttle a fits. omega (arith, fits) }

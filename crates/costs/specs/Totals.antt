@@ -7,5 +7,5 @@ abbrev pub total : ℕ → (ℕ → ℕ → ℕ → ℕ) → List ℕ → ℕ
 total start next arrivals = fold (λ total numbered. next total numbered.0 numbered.1) start (enumerate_from 0 arrivals)
 
 -- a total with an arrival added; it stays at the greatest total
-abbrev pub added : ℕ → ℕ → ℕ
-added total arrival = min (total + arrival) (2 ^ 64 - 1)
+abbrev pub total_with : ℕ → ℕ → ℕ
+total_with total arrival = min (total + arrival) (2 ^ 64 - 1)

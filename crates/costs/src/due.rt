@@ -1,12 +1,12 @@
 // Lateness, by any cost.
-ghost use Rattle.costs.specs.Figures.{figure as figure_of, past};
+ghost use Rattle.costs.specs.Figures.{figure as figure_of, ticks_past};
 ghost use Rattle.costs.specs.Layers.{layer_later, layer_greater, layer_fits, past_hands_on};
 
 use crate::cost::Cost;
 use crate::figures::{FIGURES, figure};
 
 // Hands on the ticks past the due tick of a shuttle, or 0.
-#[derive(Clone, Debug, Drop)]
+#[derive(Clone, Debug, PartialEq, Eq, Drop)]
 pub struct Due<C> {
     pub ticks: [u32; FIGURES],
     pub cost: C,
@@ -15,7 +15,7 @@ pub struct Due<C> {
 impl<C: Cost> Cost for Due<C> {
     ghost start = { λ due. C.start due.cost };
 
-    ghost next = { λ due total shuttle arrival. C.next due.cost total shuttle (past (figure_of due.ticks shuttle) arrival) };
+    ghost next = { λ due total shuttle arrival. C.next due.cost total shuttle (ticks_past (figure_of due.ticks shuttle) arrival) };
 
     fn start(&self) -> u64 {
         self.cost.start()

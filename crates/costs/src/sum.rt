@@ -1,17 +1,17 @@
 // The sum of the arrivals.
 ghost use Rattle.std.proofs.Common.{rules};
-ghost use Rattle.costs.specs.Totals.{added};
+ghost use Rattle.costs.specs.Totals.{total_with};
 
 use crate::cost::Cost;
 
 // Adds the arrivals.
-#[derive(Clone, Copy, Debug)]
+#[derive(Clone, Copy, Debug, Default, PartialEq, Eq)]
 pub struct Sum;
 
 impl Cost for Sum {
     ghost start = { λ _. 0 };
 
-    ghost next = { λ _ total _ arrival. added total arrival };
+    ghost next = { λ _ total _ arrival. total_with total arrival };
 
     fn start(&self) -> u64 {
         0

@@ -1,5 +1,5 @@
 // Arrivals times weights, by any cost.
-ghost use Rattle.costs.specs.Figures.{figure as figure_of, weighed};
+ghost use Rattle.costs.specs.Figures.{figure as figure_of, weighed_arrival};
 ghost use Rattle.costs.specs.Layers.{layer_later, layer_greater, layer_fits, weighed_hands_on};
 
 use crate::cost::Cost;
@@ -9,7 +9,7 @@ use crate::figures::{FIGURES, figure};
 const HEAVIEST: u32 = 1000;
 
 // Hands on the arrival times the weight of a shuttle.
-#[derive(Clone, Debug, Drop)]
+#[derive(Clone, Debug, PartialEq, Eq, Drop)]
 pub struct Weight<C> {
     pub weights: [u32; FIGURES],
     pub cost: C,
@@ -18,7 +18,7 @@ pub struct Weight<C> {
 impl<C: Cost> Cost for Weight<C> {
     ghost start = { λ weight. C.start weight.cost };
 
-    ghost next = { λ weight total shuttle arrival. C.next weight.cost total shuttle (weighed (figure_of weight.weights shuttle) arrival) };
+    ghost next = { λ weight total shuttle arrival. C.next weight.cost total shuttle (weighed_arrival (figure_of weight.weights shuttle) arrival) };
 
     fn start(&self) -> u64 {
         self.cost.start()

@@ -2,7 +2,7 @@
 ghost use Rattle.std.specs.Prelude.{◌≡◌, ◌==◌, [], length};
 ghost use Rattle.std.specs.List.Sorted.{IsPermutation};
 ghost use Rattle.heap.specs.Bounded.{PutsIn, TakesOut, capacity};
-ghost use Rattle.heap.specs.Rows.{no_later};
+ghost use Rattle.heap.specs.Rows.{Ascends, no_later};
 
 use crate::heap::{Full, put, take_first};
 use crate::order::TotalOrder;
@@ -41,7 +41,7 @@ impl<'a, T: TotalOrder + Copy> BoundedHeap<'a, T> {
     pub fn len(&self) -> usize
         ensures { result ≡ length self.now.row }
     {
-        self.len
+        self.as_slice().len()
     }
 
     // Whether it holds none.
@@ -58,9 +58,10 @@ impl<'a, T: TotalOrder + Copy> BoundedHeap<'a, T> {
         self.len == self.memory.len()
     }
 
-    // Its elements, in the order in which they lie in the memory.
+    // Its elements, in the order in which they lie in the memory. The row is their ascending list.
     pub fn as_slice(&self) -> &[T]
-        ensures { IsPermutation result.now self.now.row }
+        ensures same { IsPermutation result.now self.now.row }
+        ensures ascends { Ascends (no_later T.cmp) self.now.row }
     {
         &self.memory[..self.len]
     }

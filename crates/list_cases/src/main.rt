@@ -118,11 +118,7 @@ fn work(rt: &HostRuntime) -> anyhow::Result<()> {
             .ok_or(anyhow!("a list without places"))?
             .parse::<usize>()?;
         // An array, as a caller lends it that allocates nothing.
-        let mut memory = [Node {
-            bound: 0,
-            decided: 0,
-            turned: 0,
-        }; 256];
+        let mut memory = [Node::default(); 256];
         let lent = memory.get_mut(..places).ok_or(anyhow!("too many places"))?;
         work_line(rt, lent, name, words)?;
     }

@@ -10,9 +10,9 @@ use Rattle.lists.specs.Nodes.{node_le}
 abbrev pub with_row : {X : Type 0} → Holding X → List X → Holding X
 with_row h row = record { row = row; free = capacity h - length row }
 
--- some nodes with the newest, the last, in front, and how many more there is room for
-abbrev pub stacked : {X : Type 0} → ℕ → List X → Holding X
-stacked room xs = record { row = reverse xs; free = room - length xs }
+-- what is stored with the newest last, seen with the newest in front, and the places left
+abbrev pub newest_first : {X : Type 0} → ℕ → List X → Holding X
+newest_first room xs = record { row = reverse xs; free = room - length xs }
 
 -- a take leaves all but the first, and clearing leaves none
 abbrev pub HoldingTakes : {X : Type 0} → Holding X → Holding X → Type 0
@@ -21,7 +21,11 @@ HoldingTakes old new = new ≡ with_row old (drop 1 old.row)
 abbrev pub HoldingClears : {X : Type 0} → Holding X → Holding X → Type 0
 HoldingClears old new = new ≡ with_row old []
 
--- the heap's rule of place: the row goes on ascending
+-- the heap's row ascends
+abbrev pub HeapTakes : Holding Node → Holding Node → Type 0
+HeapTakes old new = HoldingTakes old new × Ascends node_le old.row
+
+-- its rule of place: the row goes on ascending
 abbrev pub HeapPuts : Holding Node → Node → ℕ → Holding Node → Type 0
 HeapPuts old node k new = (new ≡ with_row old (insert old.row k node)) × Ascends node_le new.row
 
@@ -34,11 +38,11 @@ pub record Layered (L : Type 0) : Type 0 where
   pub kept : Holding Node
   pub below : L
 
--- the dive's rule of place: first, while it has room itself; else behind the nodes kept, at a place that the list below allows
+-- the dive's rule of place: first, if it keeps fewer than eight; else behind the eight, at a place that the list below allows
 abbrev pub DivePuts : {L : Type 0} → (L → Node → ℕ → L → Type 0) → Layered L → Node → ℕ → Layered L → Type 0
 DivePuts puts old node k new =
-    ((0 < old.kept.free) × StackPuts old.kept node k new.kept × (new.below ≡ old.below))
-    ⊎ ((old.kept.free ≡ 0) × (new.kept ≡ old.kept) × ((j : ℕ) × (k ≡ length old.kept.row + j) × puts old.below node j new.below))
+    ((length old.kept.row < 8) × StackPuts old.kept node k new.kept × (new.below ≡ old.below))
+    ⊎ ((length old.kept.row ≡ 8) × (new.kept ≡ old.kept) × ((j : ℕ) × (k ≡ 8 + j) × puts old.below node j new.below))
 
 -- a take is from the nodes kept, while there are any; else from the list below
 abbrev pub DiveTakes : {L : Type 0} → (L → L → Type 0) → Layered L → Layered L → Type 0

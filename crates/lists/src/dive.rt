@@ -1,7 +1,7 @@
 // A layer over any waiting list: the newest nodes come first.
-ghost use Rattle.std.specs.Prelude.{◌≡◌, ◌+◌, [], ◌++◌};
+ghost use Rattle.std.specs.Prelude.{◌≡◌, ◌+◌, [], ◌++◌, length};
 ghost use Rattle.std.proofs.Common.{arith, length-append};
-ghost use Rattle.heap.specs.Bounded.{capacity};
+ghost use Rattle.heap.specs.Bounded.{capacity as capacity_of};
 ghost use Rattle.lists.specs.Lists.{DiveClears, DivePuts, DiveTakes};
 
 use crate::node::Node;
@@ -22,11 +22,11 @@ pub struct Dive<L> {
 
 impl<L> Model for Dive<L> {
     ghost use Rattle.std.specs.Prelude.{◌≤◌, length};
-    ghost use Rattle.lists.specs.Lists.{Layered, stacked};
+    ghost use Rattle.lists.specs.Lists.{Layered, newest_first};
 
     ghost Value = { Layered L };
 
-    ghost view = { λ d. record { kept = stacked 8 d.kept.items; below = d.below } };
+    ghost view = { λ d. record { kept = newest_first 8 d.kept.items; below = d.below } };
 
     ghost invariant = { λ d. length d.kept.items ≤ 8 };
 }
@@ -34,7 +34,7 @@ impl<L> Model for Dive<L> {
 impl<L> Dive<L> {
     // Over a list, with no node kept.
     pub fn new(below: L) -> Dive<L>
-        ensures kept { result.kept ≡ record { row = []; free = KEPT } }
+        ensures kept { result.kept ≡ record { row = []; free = 8 } }
         ensures below { result.below ≡ below }
     {
         Dive {
@@ -42,12 +42,20 @@ impl<L> Dive<L> {
             below,
         }
     }
+
+    // How many nodes it keeps itself.
+    pub fn kept(&self) -> usize
+        ensures count { result ≡ length self.now.kept.row }
+        ensures eight { capacity_of self.now.kept ≡ 8 }
+    {
+        self.kept.len()
+    }
 }
 
 impl<L: WaitingList> WaitingList for Dive<L> {
     ghost nodes = { λ d. d.kept.row ++ L.nodes d.below };
 
-    ghost capacity = { λ d. capacity d.kept + L.capacity d.below };
+    ghost capacity = { λ d. capacity_of d.kept + L.capacity d.below };
 
     ghost puts = { DivePuts L.puts };
 

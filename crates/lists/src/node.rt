@@ -3,7 +3,7 @@ ghost use Rattle.std.proofs.Common.{rules};
 
 use heap::order::TotalOrder;
 
-// Some passing orders at open meetings, and a bound that they cost at least: bit j of `decided` says whether the j-th open meeting is decided, and bit j of `turned` whether its order is turned.
+// It stands for passing orders that cost at least the bound; bit j of `decided` says whether the j-th open meeting is decided, and bit j of `turned` whether its order is turned. The lists only compare the numbers.
 // Its order is by bound, then by decided, then by turned.
 #[derive(Clone, Copy, Debug, Default, PartialEq, Eq, PartialOrd, Ord)]
 pub struct Node {

@@ -1,7 +1,7 @@
 // The heap of nodes as a waiting list: the row ascends.
 ghost use Rattle.std.proofs.Common.{rules};
-ghost use Rattle.heap.specs.Bounded.{capacity};
-ghost use Rattle.lists.specs.Lists.{HeapPuts, HoldingClears, HoldingTakes};
+ghost use Rattle.heap.specs.Bounded.{capacity as capacity_of};
+ghost use Rattle.lists.specs.Lists.{HeapPuts, HeapTakes, HoldingClears};
 
 use crate::node::Node;
 use crate::waiting::WaitingList;
@@ -10,14 +10,14 @@ use heap::heap::Full;
 
 pub type NodeHeap<'a> = BoundedHeap<'a, Node>;
 
-impl<'a> WaitingList for BoundedHeap<'a, Node> {
+impl WaitingList for NodeHeap<'_> {
     ghost nodes = { λ h. h.row };
 
-    ghost capacity = { capacity };
+    ghost capacity = { capacity_of };
 
     ghost puts = { HeapPuts };
 
-    ghost takes = { HoldingTakes };
+    ghost takes = { HeapTakes };
 
     ghost clears = { HoldingClears };
 

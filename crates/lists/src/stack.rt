@@ -1,7 +1,7 @@
 // A stack in lent memory as a waiting list: the newest node comes first.
 ghost use Rattle.std.specs.Prelude.{◌≡◌, [], length};
 ghost use Rattle.std.proofs.Common.{rules};
-ghost use Rattle.heap.specs.Bounded.{capacity};
+ghost use Rattle.heap.specs.Bounded.{capacity as capacity_of};
 ghost use Rattle.lists.specs.Lists.{StackPuts, HoldingClears, HoldingTakes};
 
 use crate::node::Node;
@@ -20,11 +20,11 @@ impl<'a> Model for Stack<'a> {
     ghost use Rattle.std.specs.Prelude.{◌≤◌, length, take};
     ghost use Rattle.heap.specs.Bounded.{Holding};
     ghost use Rattle.lists.specs.declared.node.Node.{Node};
-    ghost use Rattle.lists.specs.Lists.{stacked};
+    ghost use Rattle.lists.specs.Lists.{newest_first};
 
     ghost Value = { Holding Node };
 
-    ghost view = { λ s. stacked (length s.memory.now) (take s.len s.memory.now) };
+    ghost view = { λ s. newest_first (length s.memory.now) (take s.len s.memory.now) };
 
     ghost invariant = { λ s. s.len ≤ length s.memory.now };
 }
@@ -42,7 +42,7 @@ impl<'a> Stack<'a> {
 impl<'a> WaitingList for Stack<'a> {
     ghost nodes = { λ s. s.row };
 
-    ghost capacity = { capacity };
+    ghost capacity = { capacity_of };
 
     ghost puts = { StackPuts };
 

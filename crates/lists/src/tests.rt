@@ -24,7 +24,7 @@ fn put_two<L: WaitingList>(list: &mut L, first: Node, second: Node) -> Result<()
     list.put(second)
 }
 
-// Puts nodes with bounds from 0 on until one is refused, and answers how many were put.
+// Puts nodes with bounds from 0 on until one is refused, and answers the length then.
 fn fill<L: WaitingList>(list: &mut L) -> u64 {
     for pair in 0..100 {
         if put_two(list, node(2 * pair), node(2 * pair + 1)).is_err() {
@@ -54,7 +54,7 @@ fn put_take_clear(memory: &mut [Node], node: Node) -> (Option<Node>, u64)
 
 #[test]
 fn dives_over_a_heap(rt: HostRuntime) {
-    let mut memory = [node(0); 3];
+    let mut memory = [Node::default(); 3];
     let seven = node(7);
     assert!(rt; put_take_clear(&mut memory, seven) == (Some(seven), 0));
     let mut list = Dive::new(Dive::new(NodeHeap::new(&mut memory)));
@@ -74,9 +74,10 @@ fn dives_over_a_heap(rt: HostRuntime) {
 
 #[test]
 fn dive_over_a_stack(rt: HostRuntime) {
-    let mut memory = [node(0); 2];
+    let mut memory = [Node::default(); 2];
     let mut list = Dive::new(Stack::new(&mut memory));
     assert_eq!(rt; fill(&mut list), 10);
+    assert_eq!(rt; list.kept(), 8);
     for _ in 0..7 {
         list.take();
     }
@@ -88,7 +89,7 @@ fn dive_over_a_stack(rt: HostRuntime) {
 
 #[test]
 fn equal_bounds(rt: HostRuntime) {
-    let mut memory = [node(0); 4];
+    let mut memory = [Node::default(); 4];
     let mut list = NodeHeap::new(&mut memory);
     for (decided, turned) in [(2, 0), (1, 1), (0, 2), (1, 0)] {
         assert!(rt;

@@ -13,7 +13,7 @@ pub trait WaitingList {
 
     ghost capacity: { Self → ℕ };
 
-    // The rule of place: whether the first list may put the node at the place, and is the second list then. It may go by more than the row, as by how many nodes a layer keeps; so what becomes of a list is followed at takes and clearing too.
+    // The rule of place: whether the first list may put the node at the place, and is the second list then. A list may hide more than its row, as a dive hides how many nodes it keeps; so `takes` and `clears` follow that too.
     ghost puts: { Self → Node → ℕ → Self → Type 0 };
 
     // Whether the first list is the second one after a take.
