@@ -21,11 +21,11 @@ HoldingTakes old new = new ≡ with_row old (drop 1 old.row)
 abbrev pub HoldingClears : {X : Type 0} → Holding X → Holding X → Type 0
 HoldingClears old new = new ≡ with_row old []
 
--- the heap's row ascends
+-- a take from a heap, whose row ascends
 abbrev pub HeapTakes : Holding Node → Holding Node → Type 0
 HeapTakes old new = HoldingTakes old new × Ascends node_le old.row
 
--- its rule of place: the row goes on ascending
+-- the heap's rule of place: the row goes on ascending
 abbrev pub HeapPuts : Holding Node → Node → ℕ → Holding Node → Type 0
 HeapPuts old node k new = (new ≡ with_row old (insert old.row k node)) × Ascends node_le new.row
 

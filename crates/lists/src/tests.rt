@@ -92,46 +92,20 @@ fn equal_bounds(rt: HostRuntime) {
     let mut memory = [Node::default(); 4];
     let mut list = NodeHeap::new(&mut memory);
     for (decided, turned) in [(2, 0), (1, 1), (0, 2), (1, 0)] {
-        assert!(rt;
-            list.put(Node {
-                bound: 5,
-                decided,
-                turned
-            })
-            .is_ok()
-        );
+        let put = list.put(Node {
+            bound: 5,
+            decided,
+            turned,
+        });
+        assert!(rt; put.is_ok());
     }
     assert!(rt; list.put(node(0)) == Err(Full));
-    assert!(rt;
-        list.take()
-            == Some(Node {
-                bound: 5,
-                decided: 0,
-                turned: 2
-            })
-    );
-    assert!(rt;
-        list.take()
-            == Some(Node {
-                bound: 5,
-                decided: 1,
-                turned: 0
-            })
-    );
-    assert!(rt;
-        list.take()
-            == Some(Node {
-                bound: 5,
-                decided: 1,
-                turned: 1
-            })
-    );
-    assert!(rt;
-        list.take()
-            == Some(Node {
-                bound: 5,
-                decided: 2,
-                turned: 0
-            })
-    );
+    for (decided, turned) in [(0, 2), (1, 0), (1, 1), (2, 0)] {
+        let first = Node {
+            bound: 5,
+            decided,
+            turned,
+        };
+        assert!(rt; list.take() == Some(first));
+    }
 }
