@@ -5,9 +5,8 @@ ghost use Rattle.heap.specs.Bounded.{capacity as capacity_of};
 ghost use Rattle.lists.specs.Lists.{DiveClears, DivePuts, DiveTakes};
 
 use crate::node::Node;
-use crate::waiting::WaitingList;
+use crate::waiting::{Full, WaitingList};
 use arrayvec::ArrayVec;
-use heap::heap::Full;
 use std::marker::Model;
 
 // How many nodes a dive keeps itself.

@@ -4,9 +4,8 @@ ghost use Rattle.heap.specs.Bounded.{capacity as capacity_of};
 ghost use Rattle.lists.specs.Lists.{HeapPuts, HeapTakes, HoldingClears};
 
 use crate::node::Node;
-use crate::waiting::WaitingList;
+use crate::waiting::{Full, WaitingList};
 use heap::bounded::BoundedHeap;
-use heap::heap::Full;
 
 pub type NodeHeap<'a> = BoundedHeap<'a, Node>;
 

@@ -5,8 +5,7 @@ ghost use Rattle.heap.specs.Bounded.{capacity as capacity_of};
 ghost use Rattle.lists.specs.Lists.{StackPuts, HoldingClears, HoldingTakes};
 
 use crate::node::Node;
-use crate::waiting::WaitingList;
-use heap::heap::Full;
+use crate::waiting::{Full, WaitingList};
 use std::marker::Model;
 
 // The first `len` places of the memory hold its nodes, the newest last. A clause sees them newest first, and how many more it has room for.

@@ -5,8 +5,7 @@ use crate::dive::Dive;
 use crate::node::Node;
 use crate::node_heap::NodeHeap;
 use crate::stack::Stack;
-use crate::waiting::WaitingList;
-use heap::heap::Full;
+use crate::waiting::{Full, WaitingList};
 
 fn node(bound: u64) -> Node {
     Node {

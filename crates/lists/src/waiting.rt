@@ -4,7 +4,7 @@ ghost use Rattle.lists.specs.declared.node.Node.{Node};
 ghost use Rattle.lists.specs.Moves.{Takes, Puts};
 
 use crate::node::Node;
-use heap::heap::Full;
+pub use heap::heap::Full;
 
 // A row of nodes and a fixed capacity. Where a node is put is the list's own rule of place.
 pub trait WaitingList {
