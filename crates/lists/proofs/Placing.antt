@@ -12,11 +12,14 @@ use Rattle.lists.specs.Moves.{Puts}
 use Rattle.lists.specs.Nodes.{node_le}
 use Rattle.lists.proofs.Stacked.{same}
 
--- the order of nodes is the one by which heaps of them go
-by_fields : (a b : Node) → no_later (λ (x y : Node). ordering_then (nat_cmp x.bound y.bound) (ordering_then (nat_cmp x.decided y.decided) (nat_cmp x.turned y.turned))) a b ≡ node_le a b
+-- the derived order of nodes, by which heaps of them go
+abbrev pub by_order : Node → Node → Bool
+by_order = no_later (λ (x y : Node). ordering_then (nat_cmp x.bound y.bound) (ordering_then (nat_cmp x.decided y.decided) (nat_cmp x.turned y.turned)))
+
+by_fields : (a b : Node) → by_order a b ≡ node_le a b
 by_fields a b = grind (arith, nat_tests)
 
-order_by_fields : no_later (λ (x y : Node). ordering_then (nat_cmp x.bound y.bound) (ordering_then (nat_cmp x.decided y.decided) (nat_cmp x.turned y.turned))) ≡ node_le
+order_by_fields : by_order ≡ node_le
 order_by_fields = λ i a b. by_fields a b i
 
 put_ascending : {U F : Type 0} (x : Node) (r : Result U F) (old new : Holding Node) → PutsIn node_le x r old new → Puts (λ (h : Holding Node). h.row) capacity HeapPuts x r old new
@@ -42,10 +45,7 @@ take_ascending (Some x) old new p =
     let left : drop 1 old.row ≡ new.row = ap (drop 1) p.row in
     (same new.row (drop 1 old.row) new.free _ (sym left) (omega (arith, p.free, ap (λ (l : List Node). length l) p.row, ap (λ (l : List Node). length l) left)), p.ascends)
 
--- the same of calls by the order of nodes
-abbrev pub by_order : Node → Node → Bool
-by_order = no_later (λ (x y : Node). ordering_then (nat_cmp x.bound y.bound) (ordering_then (nat_cmp x.decided y.decided) (nat_cmp x.turned y.turned)))
-
+-- the same of calls by the derived order
 module _ {U F : Type 0} (x : Node) (r : Result U F) (old new : Holding Node) (p : PutsIn by_order x r old new) where
   put_by_fields : PutsIn node_le x r old new
   put_by_fields = let P : (Node → Node → Bool) → Type 0 = λ le. PutsIn le x r old new in subst P order_by_fields p

@@ -1,4 +1,4 @@
--- What is put on a stack and taken from it.
+-- What is taken from a stack.
 use Rattle.std.proofs.Common.{◌≡◌, ℕ, ◌+◌, ◌-◌, ◌<◌, ◌≤◌, List, [], ◌∷◌, ◌++◌, length, take, drop, get_or, reverse, length-take-le, sym, refl, ap, ◌∙◌, arith}
 use Rattle.std.proofs.lemmas.List.{length-reverse, reverse-append, take_more}
 use Rattle.heap.specs.Bounded.{Holding, capacity}
@@ -12,12 +12,9 @@ module _ {X : Type 0} (room : ℕ) (xs : List X) (within : length xs ≤ room) w
   capacity_is : capacity (newest_first room xs) ≡ room
   capacity_is = omega (arith, within, length-reverse xs)
 
-  -- another row in its room
-  pub stacked_row : (ys : List X) → newest_first room ys ≡ with_row (newest_first room xs) (reverse ys)
+  -- another row with its capacity
+  stacked_row : (ys : List X) → newest_first room ys ≡ with_row (newest_first room xs) (reverse ys)
   stacked_row ys = same (reverse ys) (reverse ys) (room - length ys) _ refl (omega (arith, capacity_is, length-reverse ys))
-
-  pub pushed : (x : X) → newest_first room (xs ++ x ∷ []) ≡ with_row (newest_first room xs) (x ∷ reverse xs)
-  pushed x = stacked_row (xs ++ x ∷ []) ∙ ap (with_row (newest_first room xs)) (reverse-append xs (x ∷ []))
 
   pub popped : (ys : List X) (x : X) → xs ≡ ys ++ x ∷ [] → newest_first room ys ≡ with_row (newest_first room xs) (drop 1 (reverse xs))
   popped ys x e = stacked_row ys ∙ ap (with_row (newest_first room xs)) (sym (ap (λ zs. drop 1 (reverse zs)) e ∙ ap (drop 1) (reverse-append ys (x ∷ []))))

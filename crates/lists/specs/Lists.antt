@@ -6,7 +6,7 @@ use Rattle.heap.specs.Rows.{Ascends}
 use Rattle.lists.specs.declared.node.Node.{Node}
 use Rattle.lists.specs.Nodes.{node_le}
 
--- another row in the same room
+-- another row, with the same capacity
 abbrev pub with_row : {X : Type 0} → Holding X → List X → Holding X
 with_row h row = record { row = row; free = capacity h - length row }
 

@@ -11,6 +11,7 @@ pub trait WaitingList {
     // The row, the first node in front.
     ghost nodes: { Self → List Node };
 
+    // How many nodes there is room for in all.
     ghost capacity: { Self → ℕ };
 
     // The rule of place: whether the first list may put the node at the place, and is the second list then. A list may hide more than its row, as a dive hides how many nodes it keeps; so `takes` and `clears` follow that too.
