@@ -109,4 +109,5 @@ def main():
     (HERE / "stdout").write_text("".join(line + "\n" for line in stdout))
 
 
-main()
+if __name__ == "__main__":
+    main()

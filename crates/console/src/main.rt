@@ -1,24 +1,24 @@
 // Reads plan.bin in the folder it runs in and opens it; then carries out the lines of standard input, to its end, and prints the reply to each. A file that cannot be read counts as empty.
 #![tactic(auto)]
 
+ghost use Rattle.desk.specs.Replies.{Shown};
+
 use desk::{carry_out, refused};
 use lines::replies::Reply;
 use run::run::Run;
+use sheet::sheet::SHEET_ROOM;
 use std::fs;
-use std::io::{BufRead, BufReader};
+use std::io::{self, BufRead, BufReader, Write};
 
 // The number of the console's run.
 const RUN: u32 = 1;
 
-// Room for any sheet: 32 lines of at most 22 bytes.
-const SHEET_ROOM: usize = 704;
-
 // A sheet is printed above its reply.
-fn print_reply(rt: &HostRuntime, reply: Reply, sheet: &[u8]) -> anyhow::Result<()> {
+fn print_reply(rt: &HostRuntime, reply: Reply, sheet: &[u8]) -> anyhow::Result<()>
+    requires { Shown reply sheet.now }
+{
     if let Reply::Sheet { bytes } = reply {
-        let lines = sheet.get(..bytes).unwrap_or(sheet);
-        let text = str::from_utf8(lines)?;
-        print!(rt; "{text}")?;
+        io::writer(rt).write_all(&sheet[..bytes])?;
     }
     println!(rt; "{reply}")?;
     Ok(())

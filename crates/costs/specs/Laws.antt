@@ -18,3 +18,8 @@ GivesTotals start next = (start < 2 ^ 64) × ((t shuttle a : ℕ) → t < 2 ^ 64
 -- No arrivals that are each no earlier than these have a total below t.
 abbrev pub NoneLaterIsLess : ℕ → (ℕ → ℕ → ℕ → ℕ) → List ℕ → ℕ → Type 0
 NoneLaterIsLess start next arrivals t = (later : List ℕ) → All (λ b. b < 2 ^ 32) later → AllZip (λ a b. a ≤ b) arrivals later → t ≤ total start next later
+
+-- So no arrivals that are each no earlier have a smaller total.
+abbrev pub TotalsNeverLess : Type 0
+TotalsNeverLess =
+    (start : ℕ) (next : ℕ → ℕ → ℕ → ℕ) → LaterNeverLess next → GreaterNeverLess next → GivesTotals start next → (arrivals : List ℕ) → NoneLaterIsLess start next arrivals (total start next arrivals)

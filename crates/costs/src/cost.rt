@@ -1,6 +1,6 @@
 // What a cost is, and the total that it makes of arrivals.
 ghost use Rattle.std.specs.Prelude.{◌≡◌, ℕ};
-ghost use Rattle.costs.specs.Laws.{LaterNeverLess, GreaterNeverLess, GivesTotals, NoneLaterIsLess};
+ghost use Rattle.costs.specs.Laws.{LaterNeverLess, GreaterNeverLess, GivesTotals, NoneLaterIsLess, TotalsNeverLess};
 ghost use Rattle.costs.specs.Totals.{total as total_of};
 
 // A total to start with, and a rule for the next total. Asking changes nothing.
@@ -34,3 +34,8 @@ pub fn total<C: Cost>(cost: &C, arrivals: &[u32]) -> u64
         |total, (shuttle, &arrival)| cost.next(total, shuttle, arrival),
     )
 }
+
+/// What follows of every cost: a later arrival never gives a smaller total.
+pub fn totals_stand()
+    ensures { TotalsNeverLess }
+{}

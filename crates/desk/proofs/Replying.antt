@@ -2,7 +2,7 @@
 use Rattle.std.proofs.Common.{◌≡◌, ℕ, Some, None, Ok, Err, Option, Result, ap, arith}
 use Rattle.floor.specs.Calls.{judged}
 use Rattle.lines.specs.declared.replies.Reply.{Reply}
-use Rattle.run.specs.declared.refusals.Refusal.{Refusal}
+use Rattle.refusals.specs.declared.Refusal.{Refusal}
 use Rattle.desk.specs.Replies.{refused_by, reply}
 
 abbrev kind : {X : Type 0} → Result X Refusal → ℕ

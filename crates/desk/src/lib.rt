@@ -1,21 +1,18 @@
-// What the console makes of a line.
+//! What the console makes of a line.
 #![tactic(auto)]
 
-ghost use Rattle.std.specs.Prelude.{◌≡◌, MatchResult};
+ghost use Rattle.std.specs.Prelude.{◌≡◌, ◌≤◌, length, MatchResult};
 ghost use Rattle.lines.specs.Lines.{command_of};
-ghost use Rattle.run.specs.Views.{state_of};
-ghost use Rattle.desk.specs.Replies.{refused_by, Replied, state_after, RepliedToLine, state_after_line};
+ghost use Rattle.desk.specs.Replies.{refused_by, IsNotShort, Replied, Shown, state_after, RepliedToLine, state_after_line};
 
 use lines::commands::{Command, read_line};
 use lines::replies::Reply;
-use run::refusals::Refusal;
+use refusals::Refusal;
 use run::run::Run;
-use sheet::sheet::write_sheet;
+use sheet::sheet::{SHEET_ROOM, write_sheet};
+use sheet::sheets_stand;
 
-// The number of a bad line, which no call refuses and so no enum of refusals has.
-const BAD_LINE: u8 = 17;
-
-// The reply to what is refused.
+/// The reply to what is refused.
 pub fn refused(why: Refusal) -> Reply
     ensures { result ≡ refused_by why }
 {
@@ -24,8 +21,9 @@ pub fn refused(why: Refusal) -> Reply
 }
 
 fn call(run: &mut Run, command: Command, sheet: &mut [u8]) -> Result<Reply, Refusal>
-    ensures reply { MatchResult result (λ r. Replied command (state_of run.old) r sheet.old sheet.new) (λ why. Replied command (state_of run.old) (refused_by why) sheet.old sheet.new) }
-    ensures state { state_of run.new ≡ state_after command (state_of run.old) }
+    ensures reply { MatchResult result (λ r. Replied command run.old r sheet.old sheet.new) (λ why. Replied command run.old (refused_by why) sheet.old sheet.new) }
+    ensures state { run.new ≡ state_after command run.old }
+    ensures room { SHEET_ROOM ≤ length sheet.old → MatchResult result IsNotShort (λ why. IsNotShort (refused_by why)) }
 {
     match command {
         Command::Hold { shuttle, ticks } => {
@@ -43,21 +41,26 @@ fn call(run: &mut Run, command: Command, sheet: &mut [u8]) -> Result<Reply, Refu
     }
 }
 
-// Carries out a command on a run. The sheet is written into the front of a buffer, which no other command touches.
+/// Carries out a command on a run. The sheet is written into the front of a buffer, which no other command touches.
 pub fn obey(run: &mut Run, command: Command, sheet: &mut [u8]) -> Reply
-    ensures reply { Replied command (state_of run.old) result sheet.old sheet.new }
-    ensures state { state_of run.new ≡ state_after command (state_of run.old) }
+    ensures reply { Replied command run.old result sheet.old sheet.new }
+    ensures state { run.new ≡ state_after command run.old }
+    ensures shown { Shown result sheet.new }
+    ensures room { SHEET_ROOM ≤ length sheet.old → IsNotShort result }
 {
+    sheets_stand();
     call(run, command, sheet).unwrap_or_else(refused)
 }
 
-// Carries out a line on a run; a bad line is refused before any call.
+/// Carries out a line on a run; a bad line is refused before any call.
 pub fn carry_out(run: &mut Run, line: &[u8], sheet: &mut [u8]) -> Reply
-    ensures reply { RepliedToLine (command_of line.now) (state_of run.old) result sheet.old sheet.new }
-    ensures state { state_of run.new ≡ state_after_line (command_of line.now) (state_of run.old) }
+    ensures reply { RepliedToLine (command_of line.now) run.old result sheet.old sheet.new }
+    ensures state { run.new ≡ state_after_line (command_of line.now) run.old }
+    ensures shown { Shown result sheet.new }
+    ensures room { SHEET_ROOM ≤ length sheet.old → IsNotShort result }
 {
     match read_line(line) {
-        None => Reply::Refused { number: BAD_LINE },
+        None => refused(Refusal::BadLine),
         Some(command) => obey(run, command, sheet),
     }
 }

@@ -2,6 +2,7 @@
 use Rattle.std.proofs.Common.{◌≡◌, ℕ, ◌+◌, ◌*◌, ◌≤◌, min, List, [], ◌∷◌, ◌++◌, length, get_or, drop, Ok, Result, sym, refl, ap, ◌∙◌, subst, mul-zero, mul-suc, arith}
 use Rattle.std.specs.List.{flat_map, AllByRecursion}
 use Rattle.files.specs.declared.plan.Stop.{Stop}
+use Rattle.files.specs.declared.plan.TheConstants.{MOST_STOPS}
 use Rattle.files.specs.Layout.{then, row, field, Entry, entry, next_entry, table, next_table, stop, next_stop, Body, body, next_body}
 use Rattle.files.specs.Bytes.{word_bytes, stop_bytes, path_bytes, FitsWord, StopFits}
 use Rattle.files.proofs.Rows.{then_from, same_ok, rest_is, Coded, after, encs, Goods, row_reads_all, row_writes, Bytes, field_reads, field_writes}
@@ -49,19 +50,19 @@ module _ (bs : List ℕ) where
   )
 
   abbrev pub EntryGood : Entry → ℕ → Type 0
-  EntryGood e count = (1 ≤ count) × (count ≤ 64) × (count ≤ e.room)
+  EntryGood e count = (1 ≤ count) × (count ≤ MOST_STOPS) × (count ≤ e.room)
 
   pub entry_reads : Bytes bs → (e : Entry) (c : ℕ) → entry bs e ≡ Ok c → (drop e.at bs ≡ word_bytes e.begin ++ word_bytes c ++ drop (e.at + 4) bs) × EntryGood e c
   entry_reads small e c r =
-      let p = then_from (field e.begin e.begin e.at bs) (λ _. field 1 (min e.room 64) (e.at + 2) bs) c r in
-      let f = pair_reads small e.begin e.begin 1 (min e.room 64) e.at p.0 c p.1 p.2 in
+      let p = then_from (field e.begin e.begin e.at bs) (λ _. field 1 (min e.room MOST_STOPS) (e.at + 2) bs) c r in
+      let f = pair_reads small e.begin e.begin 1 (min e.room MOST_STOPS) e.at p.0 c p.1 p.2 in
       let o : p.0 ≡ e.begin = omega arith in
       (f.0 ∙ ap (λ b. word_bytes b ++ word_bytes c ++ drop (e.at + 4) bs) o, (omega arith, omega arith, omega arith))
 
   pub entry_writes : (e : Entry) (c : ℕ) (rest : List ℕ) → EntryGood e c → drop e.at bs ≡ word_bytes e.begin ++ word_bytes c ++ rest → entry bs e ≡ Ok c
   entry_writes e c rest g d =
-      let f = pair_writes e.begin e.begin 1 (min e.room 64) e.at e.begin c rest (omega arith, omega arith) (omega arith, omega arith) d in
-      ap (λ x. then x (λ _. field 1 (min e.room 64) (e.at + 2) bs)) f.0 ∙ f.1
+      let f = pair_writes e.begin e.begin 1 (min e.room MOST_STOPS) e.at e.begin c rest (omega arith, omega arith) (omega arith, omega arith) d in
+      ap (λ x. then x (λ _. field 1 (min e.room MOST_STOPS) (e.at + 2) bs)) f.0 ∙ f.1
 
   pub stop_reads : Bytes bs → (at : ℕ) (s : Stop) → stop bs at ≡ Ok s → (drop at bs ≡ stop_bytes s ++ drop (at + 4) bs) × StopFits s
   stop_reads small at s r =
@@ -77,62 +78,61 @@ module _ (bs : List ℕ) where
       ap (λ x. then x (λ place. then (field 0 65535 (at + 2) bs) (λ tick. Ok (record { place = place; tick = tick })))) f.0
       ∙ ap (λ x. then x (λ tick. Ok (record { place = s.place; tick = tick }))) f.1
 
-  module _ (small : Bytes bs) where
-    abbrev pub entries : Coded bs (entry bs) next_entry
-    entries = record {
-      at = λ e. e.at;
-      enc = λ e count. word_bytes e.begin ++ word_bytes count;
-      Good = EntryGood;
-      moves = λ e count. refl;
-      reads = entry_reads small;
-      writes = entry_writes;
+  abbrev pub entries : Coded bs (entry bs) next_entry
+  entries = record {
+    at = λ e. e.at;
+    enc = λ e count. word_bytes e.begin ++ word_bytes count;
+    Good = EntryGood;
+    moves = λ e count. refl;
+    reads = entry_reads;
+    writes = entry_writes;
+  }
+
+  abbrev pub places : Coded bs (table bs) next_table
+  places = record {
+    at = λ t. t.at;
+    enc = λ t place. word_bytes place;
+    Good = λ t place. (t.low ≤ place) × FitsWord place;
+    moves = λ t place. refl;
+    reads = λ small t place r. let f = field_reads t.low 65535 t.at bs place small r in (f.0, (f.1, f.2));
+    writes = λ t place rest g d. field_writes t.low 65535 t.at bs place rest g.0 g.1 d;
+  }
+
+  abbrev pub halts : Coded bs (stop bs) next_stop
+  halts = record {
+    at = λ at. at;
+    enc = λ at s. stop_bytes s;
+    Good = λ at s. StopFits s;
+    moves = λ at s. refl;
+    reads = stop_reads;
+    writes = stop_writes;
+  }
+
+  module _ (counts : List ℕ) where
+    abbrev pub BodyGood : Body → List Stop → Type 0
+    BodyGood b path = (length path ≡ get_or counts b.shuttle 0) × AllByRecursion StopFits path
+
+    pub body_reads : Bytes bs → (b : Body) (path : List Stop) → body bs counts b ≡ Ok path → (drop b.at bs ≡ path_bytes path ++ drop (b.at + 4 * length path) bs) × BodyGood b path
+    body_reads small b path r =
+        let f = row_reads_all bs (stop bs) next_stop halts small (get_or counts b.shuttle 0) b.at path r in
+        let end = after_steady bs (stop bs) next_stop halts 4 (λ s x. refl) b.at path in
+        let written = encs_joined bs (stop bs) next_stop halts stop_bytes (λ s x. refl) b.at path in (
+          f.1 ∙ ap (λ l. l ++ drop (after bs (stop bs) next_stop halts b.at path) bs) written ∙ ap (λ i. path_bytes path ++ drop i bs) end,
+          (f.0, goods_all bs (stop bs) next_stop halts StopFits (λ s x g. g) b.at path f.2),
+        )
+
+    pub body_writes : (b : Body) (path : List Stop) (rest : List ℕ) → BodyGood b path → drop b.at bs ≡ path_bytes path ++ rest → body bs counts b ≡ Ok path
+    body_writes b path rest g d =
+        let written = encs_joined bs (stop bs) next_stop halts stop_bytes (λ s x. refl) b.at path in
+        ap (λ n. row (stop bs) next_stop n b.at []) (sym g.0)
+        ∙ row_writes bs (stop bs) next_stop halts path b.at [] rest (all_goods bs (stop bs) next_stop halts StopFits (λ s x p. p) b.at path g.1) (d ∙ ap (λ l. l ++ rest) (sym written))
+
+    abbrev pub tracks : Coded bs (body bs counts) next_body
+    tracks = record {
+      at = λ b. b.at;
+      enc = λ b path. path_bytes path;
+      Good = BodyGood;
+      moves = λ b path. ap (λ n. b.at + n) (sym (length_path path));
+      reads = body_reads;
+      writes = body_writes;
     }
-
-    abbrev pub places : Coded bs (table bs) next_table
-    places = record {
-      at = λ t. t.at;
-      enc = λ t place. word_bytes place;
-      Good = λ t place. (t.low ≤ place) × FitsWord place;
-      moves = λ t place. refl;
-      reads = λ t place r. let f = field_reads t.low 65535 t.at bs place small r in (f.0, (f.1, f.2));
-      writes = λ t place rest g d. field_writes t.low 65535 t.at bs place rest g.0 g.1 d;
-    }
-
-    abbrev pub halts : Coded bs (stop bs) next_stop
-    halts = record {
-      at = λ at. at;
-      enc = λ at s. stop_bytes s;
-      Good = λ at s. StopFits s;
-      moves = λ at s. refl;
-      reads = stop_reads small;
-      writes = stop_writes;
-    }
-
-    module _ (counts : List ℕ) where
-      abbrev pub BodyGood : Body → List Stop → Type 0
-      BodyGood b path = (length path ≡ get_or counts b.shuttle 0) × AllByRecursion StopFits path
-
-      pub body_reads : (b : Body) (path : List Stop) → body bs counts b ≡ Ok path → (drop b.at bs ≡ path_bytes path ++ drop (b.at + 4 * length path) bs) × BodyGood b path
-      body_reads b path r =
-          let f = row_reads_all bs (stop bs) next_stop halts (get_or counts b.shuttle 0) b.at path r in
-          let end = after_steady bs (stop bs) next_stop halts 4 (λ s x. refl) b.at path in
-          let written = encs_joined bs (stop bs) next_stop halts stop_bytes (λ s x. refl) b.at path in (
-            f.1 ∙ ap (λ l. l ++ drop (after bs (stop bs) next_stop halts b.at path) bs) written ∙ ap (λ i. path_bytes path ++ drop i bs) end,
-            (f.0, goods_all bs (stop bs) next_stop halts StopFits (λ s x g. g) b.at path f.2),
-          )
-
-      pub body_writes : (b : Body) (path : List Stop) (rest : List ℕ) → BodyGood b path → drop b.at bs ≡ path_bytes path ++ rest → body bs counts b ≡ Ok path
-      body_writes b path rest g d =
-          let written = encs_joined bs (stop bs) next_stop halts stop_bytes (λ s x. refl) b.at path in
-          ap (λ n. row (stop bs) next_stop n b.at []) (sym g.0)
-          ∙ row_writes bs (stop bs) next_stop halts path b.at [] rest (all_goods bs (stop bs) next_stop halts StopFits (λ s x p. p) b.at path g.1) (d ∙ ap (λ l. l ++ rest) (sym written))
-
-      abbrev pub tracks : Coded bs (body bs counts) next_body
-      tracks = record {
-        at = λ b. b.at;
-        enc = λ b path. path_bytes path;
-        Good = BodyGood;
-        moves = λ b path. ap (λ n. b.at + n) (sym (length_path path));
-        reads = body_reads;
-        writes = body_writes;
-      }

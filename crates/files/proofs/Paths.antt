@@ -1,5 +1,5 @@
 -- Paths in a list, and the first that breaks a rule.
-use Rattle.std.proofs.Common.{◌≡◌, ℕ, ◌+◌, ◌-◌, ◌<◌, ◌≤◌, ◌⊎◌, inl, inr, Bool, true, false, cond, eqb, leb, Option, None, Some, List, [], length, get_or, refl, sym, ap, ◌∙◌, subst, arith}
+use Rattle.std.proofs.Common.{◌≡◌, ℕ, suc, ◌+◌, ◌-◌, ◌<◌, ◌≤◌, ◌⊎◌, inl, inr, Bool, true, false, cond, eqb, leb, Option, None, Some, List, [], length, get_or, refl, sym, ap, ◌∙◌, subst, arith}
 use Rattle.std.proofs.lemmas.Bool.{eqb-true, eqb-false, leb-true, leb-false}
 use Rattle.std.proofs.lemmas.List.{get_or-map}
 use Rattle.files.specs.declared.plan.Path as plan
@@ -12,6 +12,11 @@ use Rattle.files.specs.Views.{path_of, paths_of}
 -- a path that is read from a list of paths
 pub path_read : (xs : List plan.Path) (s : ℕ) (p : plan.Path) → s < length xs → p ≡ get_or xs s p → path_at (paths_of xs) s ≡ path_of p
 path_read xs s p lt e = get_or-map path_of xs s p [] lt ∙ ap path_of (sym e)
+
+pub path_rises : (path : List Stop) (i : ℕ) → PathKeeps path → suc i < length path → (stop_at path i).tick < (stop_at path (suc i)).tick
+path_rises path i h lt =
+    let e : suc i - 1 ≡ i = omega arith in
+    subst (λ k. (stop_at path k).tick < (stop_at path (suc i)).tick) e ((h (suc i) lt).rises (omega arith))
 
 -- what stands before stop k of a path
 abbrev pub Before : List Stop → ℕ → Option Stop → Type 0

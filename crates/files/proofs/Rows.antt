@@ -18,6 +18,10 @@ pub rest_is : (bs front rest : List ℕ) (at on : ℕ) → drop at bs ≡ front 
 rest_is bs front rest at on e m =
     sym (ap (λ k. drop k bs) m ∙ sym (drop-drop (length front) at bs) ∙ ap (drop (length front)) e ∙ drop_at front rest (length front) refl)
 
+-- every number of the list is a byte
+abbrev pub Bytes : List ℕ → Type 0
+Bytes bs = (i : ℕ) → get_or bs i 0 < 256
+
 module _ {S X : Type 0} (bs : List ℕ) (one : S → Result X ℕ) (on : S → X → S) where
   -- where a thing stands, its bytes, and what it keeps; reading it and writing it agree
   pub record Coded : Type 1 where
@@ -25,7 +29,7 @@ module _ {S X : Type 0} (bs : List ℕ) (one : S → Result X ℕ) (on : S → X
     pub enc : S → X → List ℕ
     pub Good : S → X → Type 0
     pub moves : (s : S) (x : X) → at (on s x) ≡ at s + length (enc s x)
-    pub reads : (s : S) (x : X) → one s ≡ Ok x → (drop (at s) bs ≡ enc s x ++ drop (at (on s x)) bs) × Good s x
+    pub reads : Bytes bs → (s : S) (x : X) → one s ≡ Ok x → (drop (at s) bs ≡ enc s x ++ drop (at (on s x)) bs) × Good s x
     pub writes : (s : S) (x : X) (rest : List ℕ) → Good s x → drop (at s) bs ≡ enc s x ++ rest → one s ≡ Ok x
 
   module _ (k : Coded) where
@@ -48,13 +52,13 @@ module _ {S X : Type 0} (bs : List ℕ) (one : S → Result X ℕ) (on : S → X
       pub bytes : drop (k.at s) bs ≡ encs s zs ++ drop (k.at (after s zs)) bs
       pub good : Goods s zs
 
-    pub row_reads : (n : ℕ) (s : S) (xs ys : List X) → row one on n s xs ≡ Ok ys → Read n s xs ys
-    row_reads zero s xs ys e = record { zs = []; adds = sym (same_ok e) ∙ sym (append-nil xs); count = refl; bytes = refl; good = tt }
-    row_reads (suc n) s xs ys e =
+    pub row_reads : Bytes bs → (n : ℕ) (s : S) (xs ys : List X) → row one on n s xs ≡ Ok ys → Read n s xs ys
+    row_reads small zero s xs ys e = record { zs = []; adds = sym (same_ok e) ∙ sym (append-nil xs); count = refl; bytes = refl; good = tt }
+    row_reads small (suc n) s xs ys e =
         let p = then_from (one s) (λ x. row one on n (on s x) (xs ++ x ∷ [])) ys e in
         let x = p.0 in
-        let r = row_reads n (on s x) (xs ++ x ∷ []) ys p.2 in
-        let o = k.reads s x p.1 in
+        let r = row_reads small n (on s x) (xs ++ x ∷ []) ys p.2 in
+        let o = k.reads small s x p.1 in
         record {
           zs = x ∷ r.zs;
           adds = r.adds ∙ append_assoc xs (x ∷ []) r.zs;
@@ -65,10 +69,10 @@ module _ {S X : Type 0} (bs : List ℕ) (one : S → Result X ℕ) (on : S → X
 
     -- the same from nothing read so far
     pub row_reads_all :
-        (n : ℕ) (s : S) (ys : List X) → row one on n s [] ≡ Ok ys
+        Bytes bs → (n : ℕ) (s : S) (ys : List X) → row one on n s [] ≡ Ok ys
         → (length ys ≡ n) × (drop (k.at s) bs ≡ encs s ys ++ drop (k.at (after s ys)) bs) × Goods s ys
-    row_reads_all n s ys e =
-        let r = row_reads n s [] ys e in
+    row_reads_all small n s ys e =
+        let r = row_reads small n s [] ys e in
         let P : List X → Type 0 = λ zs. (length zs ≡ n) × (drop (k.at s) bs ≡ encs s zs ++ drop (k.at (after s zs)) bs) × Goods s zs in
         subst P (sym r.adds) (r.count, r.bytes, r.good)
 
@@ -85,10 +89,6 @@ module _ {S X : Type 0} (bs : List ℕ) (one : S → Result X ℕ) (on : S → X
         ap (λ d. then d (λ x. row one on (length zs) (on s x) (xs ++ x ∷ []))) (k.writes s z _ g.0 here)
         ∙ row_writes zs (on s z) (xs ++ z ∷ []) rest g.1 (sym there)
         ∙ ap Ok (append_assoc xs (z ∷ []) zs)
-
--- every number of the list is a byte
-abbrev pub Bytes : List ℕ → Type 0
-Bytes bs = (i : ℕ) → get_or bs i 0 < 256
 
 pub word_parts : (a b : ℕ) → b < 256 → word_bytes (a * 256 + b) ≡ a ∷ b ∷ []
 word_parts a b lt =

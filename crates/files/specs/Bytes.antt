@@ -2,6 +2,7 @@
 use Rattle.std.specs.Prelude.{◌≡◌, ℕ, suc, ◌+◌, ◌*◌, ◌/◌, ◌%◌, ◌<◌, ◌≤◌, List, [], ◌∷◌, ◌++◌, map, length, Ok, sum_by, slice_index}
 use Rattle.std.specs.List.{flat_map, AllByRecursion}
 use Rattle.files.specs.declared.plan.Stop.{Stop}
+use Rattle.files.specs.declared.plan.TheConstants.{MOST_SHUTTLES, MOST_STOPS, MOST_STOPS_IN_ALL, MOST_TABLES}
 use Rattle.files.specs.Layout.{Layout, layout, bodies_at}
 
 -- a number of 16 bits, high byte first
@@ -33,17 +34,17 @@ FitsWord n = n ≤ 65535
 abbrev pub StopFits : Stop → Type 0
 StopFits s = FitsWord s.place × FitsWord s.tick
 
--- a path has 1 to 64 stops
+-- a path has at least one stop
 abbrev pub PathFits : List Stop → Type 0
-PathFits path = (1 ≤ length path) × (length path ≤ 64) × AllByRecursion StopFits path
+PathFits path = (1 ≤ length path) × (length path ≤ MOST_STOPS) × AllByRecursion StopFits path
 
 -- the limits of a plan
 pub record Limits (l : Layout) : Type 0 where
   pub some : 1 ≤ length l.paths
-  pub shuttles : length l.paths ≤ 32
+  pub shuttles : length l.paths ≤ MOST_SHUTTLES
   pub stops : AllByRecursion PathFits l.paths
-  pub total : sum_by length l.paths ≤ 512
-  pub few : length l.tables ≤ 64
+  pub total : sum_by length l.paths ≤ MOST_STOPS_IN_ALL
+  pub few : length l.tables ≤ MOST_TABLES
   pub places : AllByRecursion FitsWord l.tables
   pub rising : (i : ℕ) → suc i < length l.tables → slice_index l.tables i < slice_index l.tables (suc i)
 

@@ -1,6 +1,7 @@
 -- The layout of a plan file. Numbers have 16 bits, high byte first. A reading is Ok with what was read, or Err with the byte place of the first fault.
 use Rattle.std.specs.Prelude.{ℕ, zero, suc, ◌+◌, ◌-◌, ◌*◌, min, cond, ◌&&◌, List, [], ◌∷◌, ◌++◌, length, Ok, Err, sum, Result, nat_le, slice_index}
 use Rattle.files.specs.declared.plan.Stop.{Stop}
+use Rattle.files.specs.declared.plan.TheConstants.{MOST_SHUTTLES, MOST_STOPS, MOST_STOPS_IN_ALL, MOST_TABLES}
 
 -- what a plan file holds
 pub record Layout : Type 0 where
@@ -26,20 +27,20 @@ abbrev pub field : ℕ → ℕ → ℕ → List ℕ → Result ℕ ℕ
 field low high at bs =
     cond (nat_le (at + 2) (length bs)) (cond (nat_le low (word bs at) && nat_le (word bs at) high) (Ok (word bs at)) (Err at)) (Err (length bs))
 
--- An entry of the contents: the offset, which is where the body begins, and the stop count, at least 1, at most 64, and at most the stops that there is room for.
+-- An entry of the contents: the offset, which is where the body begins, and the stop count, from 1 to the most of a path, and at most the stops that there is room for.
 pub record Entry : Type 0 where
   pub at : ℕ
   pub begin : ℕ
   pub room : ℕ
 
 abbrev pub entry : List ℕ → Entry → Result ℕ ℕ
-entry bs e = then (field e.begin e.begin e.at bs) λ _. field 1 (min e.room 64) (e.at + 2) bs
+entry bs e = then (field e.begin e.begin e.at bs) λ _. field 1 (min e.room MOST_STOPS) (e.at + 2) bs
 
 abbrev pub next_entry : Entry → ℕ → Entry
 next_entry e count = record { at = e.at + 4; begin = e.begin + 4 * count; room = e.room - count }
 
 abbrev pub contents : List ℕ → ℕ → ℕ → Result (List ℕ) ℕ
-contents bs n begin = row (entry bs) next_entry n (record { at = 4; begin = begin; room = 512 }) []
+contents bs n begin = row (entry bs) next_entry n (record { at = 4; begin = begin; room = MOST_STOPS_IN_ALL }) []
 
 -- A table: a place that is greater than the one before.
 pub record Table : Type 0 where
@@ -90,11 +91,11 @@ tables_at shuttles = 4 + 4 * shuttles
 abbrev pub bodies_at : ℕ → ℕ → ℕ
 bodies_at shuttles places = 4 + 4 * shuttles + 2 * places
 
--- A whole file: 1 to 32 shuttles, at most 64 tables, the contents, the tables, the bodies, and the end.
+-- A whole file: the number of shuttles, that of tables, the contents, the tables, the bodies, and the end.
 abbrev pub layout : List ℕ → Result Layout ℕ
 layout bs =
-    then (field 1 32 0 bs) λ shuttles.
-    then (field 0 64 2 bs) λ places.
+    then (field 1 MOST_SHUTTLES 0 bs) λ shuttles.
+    then (field 0 MOST_TABLES 2 bs) λ places.
     then (contents bs shuttles (bodies_at shuttles places)) λ counts.
     then (tables bs places (tables_at shuttles)) λ ts.
     then (bodies bs counts (bodies_at shuttles places)) λ ps.

@@ -1,62 +1,71 @@
--- What a floor keeps of its plan and its records.
-use Rattle.std.proofs.Common.{◌≡◌, ℕ, ◌<◌, ◌≤◌, List, length, vec_items, Option, sym, ap, ◌∙◌, arith}
-use mathlib.Core.Logic.{∥∥₁_elim}
-use native.Mathlib.Bridge.{le_prop}
-use Rattle.std.proofs.ByRecursion.{All-weaker}
-use Rattle.std.proofs.lemmas.List.{length-map}
+-- What a sound position says of its shuttles and stops.
+use Rattle.std.proofs.Common.{◌≡◌, ℕ, ◌<◌, ◌≤◌, List, [], length, Option, sym, ap, ◌∙◌, subst, inl, inr, arith}
+use Rattle.std.specs.List.{AllByRecursion}
+use Rattle.std.proofs.ByRecursion.{All-from_get_or, All-get_or, has_get_or}
+use Rattle.std.proofs.lemmas.Bool.{cases_lt}
+use Rattle.std.proofs.lemmas.List.{get_or_past}
+use Rattle.files.specs.declared.plan.Stop.{Stop}
+use Rattle.files.specs.Bytes.{PathFits}
 use Rattle.files.specs.Rules.{path_at}
-use Rattle.files.specs.Views.{path_of}
 use Rattle.meetings.specs.declared.meet.First.{First}
 use Rattle.meetings.specs.declared.meet.Meeting.{Meeting}
 use Rattle.meetings.specs.declared.stays.At.{At}
+use Rattle.meetings.specs.Laws.{Meets, MeetingsLaw}
 use Rattle.meetings.specs.Meetings.{meetings}
-use Rattle.orders.proofs.Sound.{few_shuttles}
-use Rattle.traffic.specs.Index.{meetings_at, awaited_in}
+use Rattle.plans.specs.Kept.{OpenedPlan, IsKept}
+use Rattle.traffic.specs.Index.{no_meeting}
 use Rattle.traffic.specs.Plans.{awaits}
-use Rattle.traffic.proofs.Indexed.{awaits_indexed}
-use Rattle.floor.specs.declared.floor.Floor.{Floor}
+use Rattle.floor.specs.declared.index.Touch.{Touch}
 use Rattle.floor.specs.declared.table.Shuttle.{Shuttle}
-use Rattle.floor.specs.Floors.{paths_in, records_in, scene_in}
-use Rattle.floor.specs.Shuttles.{stop_in, hold_in, CanStep}
-use Rattle.floor.proofs.Placing.{placed_count, placed_on, placed_stop, placed_low, all_low}
-use Rattle.floor.proofs.Sound.{listed_of, path_some, path_long}
+use Rattle.floor.specs.Positions.{Position, IsSound, scene_in}
+use Rattle.floor.specs.Shuttles.{fresh, stop_in, hold_in, CanStep}
+use Rattle.floor.specs.Touches.{awaited_at, touches_at}
+use Rattle.floor.proofs.Scenes.{placed_within}
+use Rattle.floor.proofs.Touching.{touches_wait, touches_within}
 
-module _ (f : Floor) where
-  pub paths_count : length (paths_in f) ≡ length (vec_items f.plan.paths)
-  paths_count = length-map (vec_items f.plan.paths) path_of
+-- all that is listed meets
+pub all_meet : (p : OpenedPlan) → IsKept p → MeetingsLaw p.paths → AllByRecursion (Meets p.paths) p.meetings
+all_meet p kept law =
+    subst (AllByRecursion (Meets p.paths)) (sym kept.listed)
+    (All-from_get_or (Meets p.paths) (meetings p.paths) no_meeting (λ j lt. law.sound _ (has_get_or (meetings p.paths) j no_meeting lt)))
 
-  pub few : length (paths_in f) ≤ 32
-  few = few_shuttles (paths_in f) (vec_items f.plan.tables) (vec_items f.plan.meetings) f.plan.sound
+module _ (p : Position) (sound : IsSound p) where
+  abbrev ps : List (List Stop)
+  ps = p.plan.paths
 
-  pub records_count : length (records_in f) ≡ length (paths_in f)
-  records_count = placed_count (paths_in f) (records_in f) f.placed
+  pub few : length ps ≤ 32
+  few = sound.kept.limits.shuttles
 
-  pub listed : vec_items f.plan.meetings ≡ meetings (paths_in f)
-  listed = listed_of (paths_in f) (vec_items f.plan.tables) (vec_items f.plan.meetings) f.plan.sound
+  pub count : length p.shuttles ≡ length ps
+  count = sound.placed.count
 
-  pub some : (s : ℕ) → s < length (paths_in f) → 1 ≤ length (path_at (paths_in f) s)
-  some = path_some (paths_in f) (vec_items f.plan.tables) (vec_items f.plan.meetings) f.plan.sound
+  pub some : (s : ℕ) → s < length ps → 1 ≤ length (path_at ps s)
+  some s lt = (All-get_or PathFits ps s [] lt sound.kept.limits.stops).0
 
-  pub long : (s : ℕ) → s < length (paths_in f) → length (path_at (paths_in f) s) ≤ 64
-  long = path_long (paths_in f) (vec_items f.plan.tables) (vec_items f.plan.meetings) f.plan.sound
+  pub long : (s : ℕ) → s < length ps → length (path_at ps s) ≤ 64
+  long s lt = (All-get_or PathFits ps s [] lt sound.kept.limits.stops).1
 
-  pub on : (s : ℕ) → s < length (paths_in f) → stop_in (records_in f) s < length (path_at (paths_in f) s)
-  on = placed_stop (paths_in f) (records_in f) f.placed
+  pub on : (s : ℕ) → s < length ps → stop_in p.shuttles s < length (path_at ps s)
+  on s lt = (sound.placed.each s lt).on
 
-  pub within : (orders : List (Option First)) (s : ℕ) → (scene_in f orders).entered s ≤ (scene_in f orders).last s
-  within = placed_on (paths_in f) (records_in f) f.placed
+  pub short : (s : ℕ) → s < length ps → hold_in p.shuttles s ≤ 4095
+  short s lt = (sound.placed.each s lt).short
 
-  pub low : (s : ℕ) → stop_in (records_in f) s < 64
-  low = placed_low (paths_in f) (records_in f) f.placed long
+  pub within : (orders : List (Option First)) (s : ℕ) → (scene_in p orders).entered s ≤ (scene_in p orders).last s
+  within orders s = placed_within ps orders p.shuttles sound.placed s
 
-  pub short : (s : ℕ) → s < length (paths_in f) → hold_in (records_in f) s ≤ 4095
-  short s lt = ∥∥₁_elim f.placed le_prop (λ h. (h.each s lt).short)
+  pub low : (s : ℕ) → stop_in p.shuttles s < 64
+  low s = elim (cases_lt s (length ps)) [
+    | inl l ↦ omega (arith, on s l, long s l)
+    | inr g ↦ omega (arith, ap (λ (x : Shuttle). x.stop) (get_or_past p.shuttles s fresh (omega (arith, g, count))))
+  ]
 
-  pub can_step : CanStep (records_in f)
-  can_step = All-weaker _ _ (λ (x : Shuttle) h. omega (arith, h)) (records_in f) (all_low (paths_in f) (records_in f) f.placed long)
+  pub can_step : CanStep p.shuttles
+  can_step = All-from_get_or (λ (x : Shuttle). x.stop < 65536) p.shuttles fresh (λ s _. omega (arith, low s))
 
-  -- what a stop waits for, by the numbers of its meetings
-  pub waits_of : (orders : List (Option First)) (a : At) (js : List ℕ) → js ≡ meetings_at (vec_items f.plan.meetings) a → awaited_in (vec_items f.plan.meetings) orders a js ≡ (scene_in f orders).waits a
-  waits_of orders a js is =
-      let ms = vec_items f.plan.meetings in
-      ap (awaited_in ms orders a) is ∙ sym (awaits_indexed ms orders a) ∙ ap (λ (l : List Meeting). awaits l orders a) listed
+  -- what a stop waits for, by its touches
+  pub waits_of : (orders : List (Option First)) (a : At) → awaited_at orders (touches_at p.plan.meetings a) ≡ (scene_in p orders).waits a
+  waits_of orders a = touches_wait orders a p.plan.meetings ps sound.meet ∙ ap (λ (l : List Meeting). awaits l orders a) sound.kept.listed
+
+  pub touches_are : (a : At) → AllByRecursion (λ (t : Touch). t.shuttle < length ps) (touches_at p.plan.meetings a)
+  touches_are a = touches_within a p.plan.meetings ps sound.meet

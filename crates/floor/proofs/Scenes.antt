@@ -7,8 +7,8 @@ use Rattle.files.specs.Rules.{path_at}
 use Rattle.meetings.specs.declared.meet.First.{First}
 use Rattle.traffic.specs.Laws.{with_holds}
 use Rattle.traffic.specs.Plans.{scene_of}
+use Rattle.traffic.specs.Safety.{MovesExactly}
 use Rattle.traffic.specs.Scene.{tick}
-use Rattle.traffic.proofs.Ranking.{moved}
 use Rattle.floor.specs.declared.table.Shuttle.{Shuttle}
 use Rattle.floor.specs.Scenes.{scene, movers, after_tick, word_of_moved, Placed, AllPlaced}
 use Rattle.floor.specs.Shuttles.{fresh, all_fresh, shuttle_at, stop_in, hold_in, holding, step, stepped}
@@ -41,28 +41,28 @@ past_fresh : (xs : List Shuttle) (s : ℕ) → length xs ≤ s → shuttle_at xs
 past_fresh xs s le = get_or_past xs s fresh le
 
 -- nobody moves beyond the plan
-past_stays : (ps : List (List Stop)) (orders : List (Option First)) (standing : ℕ) (xs : List Shuttle) (s : ℕ) → length ps ≤ s → movers ps orders standing xs s ≡ false
-past_stays ps orders standing xs s le = go (movers ps orders standing xs s) refl
+pub past_stays : MovesExactly → (ps : List (List Stop)) (orders : List (Option First)) (standing : ℕ) (xs : List Shuttle) (s : ℕ) → length ps ≤ s → movers ps orders standing xs s ≡ false
+past_stays exactly ps orders standing xs s le = go (movers ps orders standing xs s) refl
   where
     go : (b : Bool) → movers ps orders standing xs s ≡ b → b ≡ false
-    go true m = absurd (omega (arith, (moved (scene ps orders xs) (bit standing) s m).short, ap length (get_or_past ps s [] le)))
+    go true m = absurd (omega (arith, ((exactly (scene ps orders xs) (bit standing) s).0 m).short, ap length (get_or_past ps s [] le)))
     go false m = refl
 
 -- each record after a tick
 pub after-at :
-    (ps : List (List Stop)) (orders : List (Option First)) (standing : ℕ) (xs : List Shuttle) → length xs ≡ length ps
+    MovesExactly → (ps : List (List Stop)) (orders : List (Option First)) (standing : ℕ) (xs : List Shuttle) → length xs ≡ length ps
     → (s : ℕ) → shuttle_at (after_tick ps orders standing xs) s ≡ step (movers ps orders standing xs s) (shuttle_at xs s)
-after-at ps orders standing xs count s =
+after-at exactly ps orders standing xs count s =
     elim (dec_lt s (length xs)) [
       | yes d ↦ stepped-at (movers ps orders standing xs) xs s d
-      | no d ↦ past_fresh (after_tick ps orders standing xs) s (omega (arith, length-stepped (movers ps orders standing xs) 0 xs)) ∙ sym (ap₂ (λ (b : Bool) (x : Shuttle). step b x) (past_stays ps orders standing xs s (omega arith)) (past_fresh xs s (omega arith)))
+      | no d ↦ past_fresh (after_tick ps orders standing xs) s (omega (arith, length-stepped (movers ps orders standing xs) 0 xs)) ∙ sym (ap₂ (λ (b : Bool) (x : Shuttle). step b x) (past_stays exactly ps orders standing xs s (omega arith)) (past_fresh xs s (omega arith)))
     ]
 
 pub tick-scene :
-    (ps : List (List Stop)) (orders : List (Option First)) (standing : ℕ) (xs : List Shuttle) → length xs ≡ length ps
+    MovesExactly → (ps : List (List Stop)) (orders : List (Option First)) (standing : ℕ) (xs : List Shuttle) → length xs ≡ length ps
     → scene ps orders (after_tick ps orders standing xs) ≡ tick (scene ps orders xs) (bit standing)
-tick-scene ps orders standing xs count =
-    let after = after-at ps orders standing xs count in
+tick-scene exactly ps orders standing xs count =
+    let after = after-at exactly ps orders standing xs count in
     λ i. record {
       entered = λ s. (after s i).stop;
       last = (scene ps orders xs).last;
@@ -83,15 +83,15 @@ placed_within ps orders xs placed s =
       | no d ↦ omega (arith, ap (λ (x : Shuttle). x.stop) (past_fresh xs s (omega (arith, placed.count))))
     ]
 
-pub placed_tick : (ps : List (List Stop)) (orders : List (Option First)) (standing : ℕ) (xs : List Shuttle) → AllPlaced ps xs → AllPlaced ps (after_tick ps orders standing xs)
-placed_tick ps orders standing xs placed = record {
+pub placed_tick : MovesExactly → (ps : List (List Stop)) (orders : List (Option First)) (standing : ℕ) (xs : List Shuttle) → AllPlaced ps xs → AllPlaced ps (after_tick ps orders standing xs)
+placed_tick exactly ps orders standing xs placed = record {
   count = length-stepped (movers ps orders standing xs) 0 xs ∙ placed.count;
-  each = λ s lt. subst (Placed (path_at ps s)) (sym (after-at ps orders standing xs placed.count s)) (go s (placed.each s lt) (movers ps orders standing xs s) refl);
+  each = λ s lt. subst (Placed (path_at ps s)) (sym (after-at exactly ps orders standing xs placed.count s)) (go s (placed.each s lt) (movers ps orders standing xs s) refl);
 }
   where
     go : (s : ℕ) → Placed (path_at ps s) (shuttle_at xs s) → (b : Bool) → movers ps orders standing xs s ≡ b → Placed (path_at ps s) (step b (shuttle_at xs s))
     go s p true m =
-        let k = moved (scene ps orders xs) (bit standing) s m in
+        let k = (exactly (scene ps orders xs) (bit standing) s).0 m in
         record { on = omega (arith, k.short); short = omega (arith, p.short); home = λ e. omega (arith, k.hold) }
     go s p false m = record { on = omega (arith, p.on); short = omega (arith, p.short); home = λ e. omega (arith, p.home (omega arith)) }
 

@@ -1,10 +1,7 @@
 -- Tables of shuttle records, changed one record after another.
-use Rattle.std.proofs.Common.{◌≡◌, ℕ, zero, suc, ◌+◌, ◌<◌, ◌≤◌, Bool, List, [], ◌∷◌, ◌++◌, length, get_or, take, drop, set, replicate, sym, refl, ap, ◌∙◌, inl, inr, arith}
-use Rattle.std.proofs.lemmas.List.{get_or-replicate, get_or_past, length-replicate}
-use Rattle.std.proofs.Math.Seq.{take-append_seam}
-use Rattle.std.proofs.lemmas.Bool.{cases_lt}
+use Rattle.std.proofs.Common.{◌≡◌, ℕ, zero, suc, ◌+◌, ◌<◌, ◌≤◌, Bool, List, [], ◌∷◌, length, set, refl, ap, ◌∙◌, arith}
 use Rattle.floor.specs.declared.table.Shuttle.{Shuttle}
-use Rattle.floor.specs.Shuttles.{shuttle_at, stop_in, step, stepped}
+use Rattle.floor.specs.Shuttles.{shuttle_at, step, stepped}
 
 -- the first k stepped, from shuttle s on
 abbrev pub stepped_to : (ℕ → Bool) → ℕ → ℕ → List Shuttle → List Shuttle
@@ -51,26 +48,3 @@ module _ (moves : ℕ → Bool) (k : ℕ) (ys xs : List Shuttle) where
       ∙ ap (λ (r : ℕ). set (stepped_to moves 0 k xs) k (step (moves r) (shuttle_at xs k))) {x = k} {y = 0 + k} (omega arith)
       ∙ stepped_more moves 0 k xs lt
       ∙ ap (λ (r : ℕ). stepped_to moves 0 r xs) {x = suc k} {y = k + 1} (omega arith)
-
--- a vector whose items were all lent has what was written
-pub written_back : {X : Type 0} (ys xs : List X) (n : ℕ) → length ys ≡ length xs → n ≡ length xs → take n (ys ++ drop (length ys) xs) ≡ ys
-written_back ys xs n same is = ap (λ (k : ℕ). take k (ys ++ drop (length ys) xs)) (is ∙ sym same) ∙ take-append_seam ys (drop (length ys) xs)
-
--- how many stops the first n shuttles have entered, and 1 for any other number
-pub record EnteredTo (xs : List Shuttle) (n : ℕ) (known : List ℕ) : Type 0 where
-  pub count : length known ≡ 32
-  pub here : (s : ℕ) → s < n → get_or known s 1 ≡ suc (stop_in xs s)
-  pub there : (s : ℕ) → n ≤ s → get_or known s 1 ≡ 1
-
-one_entered : (s : ℕ) → ◌≡◌ {A = ℕ} (get_or (replicate 32 1) s 1) 1
-one_entered s = elim (cases_lt s 32) [
-  | inl l ↦ get_or-replicate 32 s 1 1 l
-  | inr g ↦ get_or_past (replicate 32 1) s 1 (omega (arith, g, length-replicate {A = ℕ} 32 1))
-]
-
-pub entered_none : (xs : List Shuttle) → EnteredTo xs 0 (replicate 32 1)
-entered_none xs = record {
-  count = length-replicate {A = ℕ} 32 1;
-  here = λ s l. absurd (omega (arith, l));
-  there = λ s _. one_entered s;
-}

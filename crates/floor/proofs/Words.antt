@@ -66,7 +66,7 @@ or_next w k lt few =
     let one : 1 * 2 ^ k % 2 ^ 32 ≡ 1 * 2 ^ k = omega (arith, one_shl k 32 few) in
     omega (arith, ap (bit_or w) one ∙ or_comm w (1 * 2 ^ k) ∙ or_shifted 1 k w lt)
 
-range_last : (a n j : ℕ) → a + n ≡ j → range_with_len a (suc n) ≡ range_with_len a n ++ j ∷ []
+pub range_last : (a n j : ℕ) → a + n ≡ j → range_with_len a (suc n) ≡ range_with_len a n ++ j ∷ []
 range_last a zero j e = ap (λ (x : ℕ). x ∷ []) (omega (arith, e))
 range_last a (suc n) j e = ap (λ (l : List ℕ). a ∷ l) (range_last (a + 1) n j (omega (arith, e)))
 

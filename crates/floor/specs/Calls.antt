@@ -4,6 +4,7 @@ use Rattle.files.specs.declared.plan.Stop.{Stop}
 use Rattle.files.specs.Rules.{path_at}
 use Rattle.floor.specs.declared.floor.calls.FloorFault.{FloorFault}
 use Rattle.floor.specs.declared.floor.calls.FloorFault.TheVariants.{NoShuttle, AtLastStop, LongHold}
+use Rattle.floor.specs.declared.floor.calls.TheConstants.{LONGEST_HOLD}
 use Rattle.floor.specs.declared.table.Shuttle.{Shuttle}
 use Rattle.floor.specs.Shuttles.{shuttle_at, stop_in, holding}
 
@@ -17,12 +18,12 @@ abbrev pub unless : {F X : Type 0} → Option F → X → X → X
 unless None after before = after
 unless (Some f) after before = before
 
--- a hold for a shuttle that is not in the plan, then one at a last stop, then one over 4,095
+-- a hold for a shuttle that is not in the plan, then one at a last stop, then one over the longest hold
 abbrev pub fault_of_hold : List (List Stop) → List Shuttle → ℕ → ℕ → Option FloorFault
 fault_of_hold ps xs s ticks =
     cond (nat_lt s (length ps))
     (cond (nat_lt (suc (stop_in xs s)) (length (path_at ps s)))
-    (cond (nat_le ticks 4095) None (Some LongHold))
+    (cond (nat_le ticks LONGEST_HOLD) None (Some LongHold))
     (Some AtLastStop))
     (Some NoShuttle)
 

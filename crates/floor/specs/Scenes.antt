@@ -5,6 +5,7 @@ use Rattle.files.specs.Rules.{path_at}
 use Rattle.meetings.specs.declared.meet.First.{First}
 use Rattle.traffic.specs.Plans.{scene_of}
 use Rattle.traffic.specs.Scene.{Scene, moves}
+use Rattle.floor.specs.declared.floor.calls.TheConstants.{LONGEST_HOLD}
 use Rattle.floor.specs.declared.table.Shuttle.{Shuttle}
 use Rattle.floor.specs.Shuttles.{shuttle_at, stop_in, hold_in, stepped}
 use Rattle.floor.specs.Words.{bit, word_of}
@@ -23,10 +24,10 @@ after_tick ps orders standing xs = stepped (movers ps orders standing xs) 0 xs
 abbrev pub word_of_moved : List (List Stop) → List (Option First) → ℕ → List Shuttle → ℕ
 word_of_moved ps orders standing xs = word_of (movers ps orders standing xs) (length ps)
 
--- a shuttle on its path: its hold is at most 4,095, and 0 at the last stop
+-- a shuttle on its path: its hold is at most the longest one, and 0 at the last stop
 pub record Placed (path : List Stop) (x : Shuttle) : Type 0 where
   pub on : x.stop < length path
-  pub short : x.hold ≤ 4095
+  pub short : x.hold ≤ LONGEST_HOLD
   pub home : suc x.stop ≡ length path → x.hold ≡ 0
 
 -- a record for each path, each on its path

@@ -1,5 +1,5 @@
 -- What a list of shuttle records says.
-use Rattle.std.specs.Prelude.{◌≡◌, ℕ, suc, ◌+◌, ◌-◌, ◌<◌, Bool, cond, List, [], ◌∷◌, length, replicate, slice_index_or}
+use Rattle.std.specs.Prelude.{ℕ, suc, ◌+◌, ◌-◌, ◌<◌, Bool, cond, List, [], ◌∷◌, replicate, slice_index_or}
 use Rattle.std.specs.List.{AllByRecursion}
 use Rattle.floor.specs.declared.table.Shuttle.{Shuttle}
 
@@ -37,8 +37,3 @@ stepped moves s (x ∷ xs) = step (moves s) x ∷ stepped moves (suc s) xs
 -- stops that can be counted on
 abbrev pub CanStep : List Shuttle → Type 0
 CanStep xs = AllByRecursion (λ (x : Shuttle). x.stop < 65536) xs
-
--- how many stops each shuttle has entered, in a list of 32; 1 for a number beyond the records
-pub record Entered (xs : List Shuttle) (known : List ℕ) : Type 0 where
-  pub count : length known ≡ 32
-  pub each : (s : ℕ) → slice_index_or known s 1 ≡ suc (stop_in xs s)

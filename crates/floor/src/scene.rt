@@ -3,42 +3,45 @@ ghost use Rattle.std.specs.Prelude.{◌≡◌, ◌<◌, length, IfSome};
 ghost use Rattle.std.specs.Option.{option_to_list};
 ghost use Rattle.meetings.specs.Laws.{StopOf};
 ghost use Rattle.traffic.specs.Scene.{done, every, moves};
-ghost use Rattle.floor.specs.Floors.{meetings_in, paths_under, records_in, scene_under, waits_at};
-ghost use Rattle.floor.specs.Scenes.{word_of_moved};
+ghost use Rattle.floor.specs.Positions.{moved_at};
+ghost use Rattle.floor.specs.Touches.{touched};
+ghost use Rattle.floor.specs.Under.{orders_under, paths_under, scene_under};
 ghost use Rattle.floor.specs.Words.{bit};
 
 use crate::floor::Floor;
+use crate::index::Touch;
+use crate::next::next_stop;
+use crate::passing::PassingOrders;
 use crate::table::names;
-use meetings::meet::First;
 use meetings::stays::At;
-use orders::waits::wait_at;
 
-// A floor and the orders for its meetings, of which some may be left out.
+// A floor, and orders for its meetings.
 #[derive(Clone, Copy)]
 pub(crate) struct Scene<'a> {
     pub(crate) floor: &'a Floor,
-    pub(crate) orders: &'a [Option<First>],
+    pub(crate) orders: PassingOrders<'a>,
 }
 
 // That a shuttle, a stop or a meeting is the floor's is required where it is asked for: a type that holds the scene beside the number would say no more, and each caller would make one.
 impl Scene<'_> {
-    // What a stop waits for at a meeting, if it waits there.
-    pub(crate) fn awaited(&self, meeting: usize, at: At) -> Option<At>
-        requires { meeting < length (meetings_in self.now.floor.now) }
-        ensures stop { option_to_list result ≡ waits_at self.now at meeting }
-        ensures shuttle { IfSome result (λ other. other.shuttle < length (paths_under self.now)) }
+    // What a stop waits for at a touch, if it waits there.
+    pub(crate) fn awaited(&self, touch: Touch) -> Option<At>
+        ensures stop { option_to_list result ≡ touched (orders_under self.now) touch }
+        ensures shuttle { IfSome result (λ other. other.shuttle ≡ touch.shuttle) }
     {
-        let first = self.orders.get(meeting).copied().flatten()?;
-        let wait = wait_at(self.floor.plan(), meeting, first)?;
-        (wait.second == at).then_some(wait.awaited)
+        let waits = self.orders.get(usize::from(touch.meeting)) == Some(touch.first);
+        waits.then_some(At {
+            shuttle: usize::from(touch.shuttle),
+            stop: usize::from(touch.stop),
+        })
     }
 
-    // Whether a stop waits for nothing at a meeting, or for a stop that has been entered.
-    fn is_met(&self, meeting: usize, at: At) -> bool
-        requires { meeting < length (meetings_in self.now.floor.now) }
-        ensures { result ≡ every (done (scene_under self.now)) (waits_at self.now at meeting) }
+    // Whether a stop waits for nothing at a touch, or for a stop that has been entered.
+    fn is_met(&self, touch: Touch) -> bool
+        requires { touch.shuttle < length (paths_under self.now) }
+        ensures { result ≡ every (done (scene_under self.now)) (touched (orders_under self.now) touch) }
     {
-        self.awaited(meeting, at)
+        self.awaited(touch)
             .is_none_or(|other| self.floor.has_entered(other))
     }
 
@@ -48,9 +51,10 @@ impl Scene<'_> {
         ensures { result ≡ every (done (scene_under self.now)) ((scene_under self.now).waits at) }
     {
         self.floor
-            .meetings_of(at)
+            .path(at.shuttle)
+            .at(at.stop)
             .iter()
-            .all(|meeting| self.is_met(*meeting, at))
+            .all(|touch| self.is_met(*touch))
     }
 
     // Whether a shuttle moves, by the word that names those that stand.
@@ -66,8 +70,8 @@ impl Scene<'_> {
             shuttle,
             stop: one.stop,
         };
-        // A `match`: of `is_some_and` the proof did not close.
-        match self.floor.after(entered) {
+        // Taken apart by a `match`: its arms are the two cases of the rule.
+        match next_stop(entered, self.floor.stop_count(shuttle)) {
             None => false,
             Some(at) => self.is_clear(at),
         }
@@ -75,7 +79,7 @@ impl Scene<'_> {
 
     // The word that names the shuttles that move.
     pub(crate) fn moved_word(&self, standing: u32) -> u32
-        ensures { result ≡ word_of_moved (paths_under self.now) self.now.orders.now standing (records_in self.now.floor.now) }
+        ensures { result ≡ moved_at (orders_under self.now) standing self.now.floor.now }
     {
         (0..self.floor.count())
             .filter(|shuttle| self.moves(standing, *shuttle))

@@ -1,10 +1,11 @@
 // The shuttles of a run: the last stop that each has entered, and its hold.
 ghost use Rattle.std.specs.Prelude.{◌≡◌, ◌+◌, ◌^◌, ◌<◌, ◌≤◌, length, if◌then◌else◌, IfOk, MatchBool, nat_eq, slice_get, slice_set};
-ghost use Rattle.floor.specs.Shuttles.{shuttle_at, all_fresh, holding, step, CanStep, stepped, Entered};
+ghost use Rattle.floor.specs.Shuttles.{shuttle_at, all_fresh, holding, step, CanStep, stepped};
 ghost use Rattle.floor.specs.Words.{bit};
 
-use crate::entry::SHUTTLES;
+use files::plan::MOST_SHUTTLES;
 use std::alloc::{AllocError, Global};
+use std::marker::Model;
 
 // The last stop entered, and the hold ticks left.
 #[derive(Clone, Copy, PartialEq, Eq, Debug)]
@@ -13,15 +14,24 @@ pub struct Shuttle {
     pub hold: u16,
 }
 
-// A record for each shuttle.
+/// A record for each shuttle. A clause sees the list of them.
 #[derive(Drop)]
 pub struct Shuttles {
     records: Vec<Shuttle>,
 }
 
+impl Model for Shuttles {
+    ghost use Rattle.std.specs.Prelude.{List};
+    ghost use Rattle.floor.specs.declared.table.Shuttle.{Shuttle};
+
+    ghost Value = { List Shuttle };
+
+    ghost view = { λ t. t.records.items };
+}
+
 // Whether a shuttle is named by a word.
 pub(crate) fn names(word: u32, shuttle: usize) -> bool
-    requires { shuttle < 32 }
+    requires { shuttle < MOST_SHUTTLES }
     ensures { result ≡ bit word shuttle }
 {
     (word >> shuttle) % 2 == 1
@@ -29,10 +39,10 @@ pub(crate) fn names(word: u32, shuttle: usize) -> bool
 
 // Whether a word names a shuttle that is not below a count.
 pub(crate) fn too_many(standing: u32, count: usize) -> bool
-    requires { count ≤ 32 }
+    requires { count ≤ MOST_SHUTTLES }
     ensures { MatchBool result (2 ^ count ≤ standing) (standing < 2 ^ count) }
 {
-    count < 32 && standing >> count != 0
+    count < MOST_SHUTTLES && standing >> count != 0
 }
 
 impl Shuttle {
@@ -46,73 +56,46 @@ impl Shuttle {
             hold: self.hold.saturating_sub(1),
         }
     }
-
-    // The entry tick of a stop, with the hold added if it is the last stop that the shuttle has entered.
-    pub(crate) fn own_tick(self, stop: usize, tick: u32) -> u32
-        requires { tick < 2 ^ 31 }
-        ensures tick { result ≡ tick + (if nat_eq stop self.stop then self.hold else 0) }
-        ensures most { result ≤ tick + self.hold }
-    {
-        if stop == self.stop {
-            tick + u32::from(self.hold)
-        } else {
-            tick
-        }
-    }
 }
 
 impl Shuttles {
     // All at stop 0, without holds.
-    pub(crate) fn fresh(heap: Global, count: usize) -> Result<Shuttles, AllocError>
-        ensures { IfOk result (λ t. t.records.items ≡ all_fresh count) }
+    pub(crate) fn fresh(alloc: Global, count: usize) -> Result<Shuttles, AllocError>
+        ensures { IfOk result (λ t. t ≡ all_fresh count) }
     {
         Ok(Shuttles {
-            records: vec![in heap; Shuttle { stop: 0, hold: 0 }; count]?,
+            records: vec![in alloc; Shuttle { stop: 0, hold: 0 }; count]?,
         })
     }
 
     // The record of a shuttle, if there is one.
     pub(crate) fn get(&self, shuttle: usize) -> Option<Shuttle>
-        ensures { result ≡ slice_get self.now.records.items shuttle }
+        ensures { result ≡ slice_get self.now shuttle }
     {
         self.records.get(shuttle).copied()
     }
 
     // The record of a shuttle that there is.
     pub(crate) fn at(&self, shuttle: usize) -> Shuttle
-        requires { shuttle < length self.now.records.items }
-        ensures { result ≡ shuttle_at self.now.records.items shuttle }
+        requires { shuttle < length self.now }
+        ensures { result ≡ shuttle_at self.now shuttle }
     {
         self.records[shuttle]
     }
 
-    // How many stops each shuttle has entered: 1, if there is no such shuttle.
-    pub(crate) fn entered(&self) -> [usize; SHUTTLES]
-        requires few { length self.now.records.items ≤ 32 }
-        requires fits { CanStep self.now.records.items }
-        ensures { Entered self.now.records.items result }
-    {
-        let mut entered = [1; SHUTTLES];
-        // An index: of `iter_mut().zip(..)` the proof did not close, since a loop's invariant can not name an array that is lent; the array has room for any plan, since entry ticks allocate no memory.
-        for (shuttle, one) in self.records.iter().enumerate() {
-            entered[shuttle] = one.stop + 1;
-        }
-        entered
-    }
-
     // Replaces the hold of one shuttle.
     pub(crate) fn set_hold(&mut self, shuttle: usize, ticks: u16)
-        requires { shuttle < length self.old.records.items }
-        ensures { self.new.records.items ≡ slice_set self.old.records.items shuttle (holding ticks (shuttle_at self.old.records.items shuttle)) }
+        requires { shuttle < length self.old }
+        ensures { self.new ≡ slice_set self.old shuttle (holding ticks (shuttle_at self.old shuttle)) }
     {
         self.records[shuttle].hold = ticks;
     }
 
     // The shuttles that a word names enter their next stops, and every hold above 0 falls by one.
     pub(crate) fn step(&mut self, moved: u32)
-        requires few { length self.old.records.items ≤ 32 }
-        requires fits { CanStep self.old.records.items }
-        ensures { self.new.records.items ≡ stepped (bit moved) 0 self.old.records.items }
+        requires few { length self.old ≤ MOST_SHUTTLES }
+        requires fits { CanStep self.old }
+        ensures { self.new ≡ stepped (bit moved) 0 self.old }
     {
         for (shuttle, one) in self.records.iter_mut().enumerate() {
             *one = one.after_tick(names(moved, shuttle));

@@ -1,15 +1,14 @@
 // Heaps over lent memory, for records with a total order: the least is taken first.
 #![tactic(auto)]
 
-ghost use Rattle.std.specs.Prelude.{IsTrue};
 ghost use Rattle.heap.specs.Laws.{ComparisonsOrder, OrdersAreReflexive, SortsAscend, SortsKeepElements, RowsAreUnique, InsertsAscend, InsertsAddOne, InsertsAtPlace, PlacesDivide, FirstsAreLeast};
 
 pub mod bounded;
 pub mod heap;
 pub mod order;
 
-// The row of some elements: the one ascending list of them, and what an insertion does to it.
-pub fn rows_stand<T>() -> bool
+/// The row of some elements: the one ascending list of them, and what an insertion does to it.
+pub fn rows_stand<T>()
     ensures ordered { ComparisonsOrder T }
     ensures reflexive { OrdersAreReflexive T }
     ensures ascends { SortsAscend T }
@@ -19,15 +18,9 @@ pub fn rows_stand<T>() -> bool
     ensures one { InsertsAddOne T }
     ensures place { InsertsAtPlace T }
     ensures divides { PlacesDivide T }
-    ensures answer { IsTrue result }
-{
-    true
-}
+{}
 
-// The first of a heap is no later than any other.
-pub fn heaps_stand<T>() -> bool
+/// The first of a heap is no later than any other.
+pub fn heaps_stand<T>()
     ensures least { FirstsAreLeast T }
-    ensures answer { IsTrue result }
-{
-    true
-}
+{}

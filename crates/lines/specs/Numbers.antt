@@ -2,6 +2,7 @@
 use Rattle.std.specs.Prelude.{◌≡◌, ℕ, suc, ◌+◌, ◌-◌, ◌*◌, ◌^◌, ◌<◌, ◌≤◌, cond, ◌&&◌, Bool, List, [], ◌∷◌, length, take, drop, Some, None, Option, ◌==◌, nat_le, nat_lt}
 use Rattle.std.specs.Borrow.{Bor}
 use Rattle.std.specs.List.{AllByRecursion}
+use Rattle.lines.specs.declared.numbers.TheConstants.{MOST_DIGITS}
 
 -- a digit is one of the bytes 48 to 57
 abbrev pub is_digit : ℕ → Bool
@@ -15,10 +16,10 @@ abbrev pub worth : List ℕ → ℕ
 worth [] = 0
 worth (d ∷ ds) = (d - 48) * 10 ^ length ds + worth ds
 
--- the digits write the number: 1 to 10 of them, and zeros may stand in front
+-- the digits write the number: there are some and not too many, and zeros may stand in front
 pub record Writes (ds : List ℕ) (n : ℕ) : Type 0 where
   pub some : 1 ≤ length ds
-  pub few : length ds ≤ 10
+  pub few : length ds ≤ MOST_DIGITS
   pub all : Digits ds
   pub value : worth ds ≡ n
   pub fits : n < 2 ^ 32
@@ -36,7 +37,7 @@ then (Some x) next = next x
 -- the number that as many digits in front write, and what follows them
 abbrev pub numeral_of : ℕ → List ℕ → Option (ℕ × List ℕ)
 numeral_of count bs =
-    cond (nat_le 1 count && nat_le count 10 && nat_lt (worth (take count bs)) (2 ^ 32)) (Some (worth (take count bs), drop count bs)) None
+    cond (nat_le 1 count && nat_le count MOST_DIGITS && nat_lt (worth (take count bs)) (2 ^ 32)) (Some (worth (take count bs), drop count bs)) None
 
 -- the number after a space, and what follows it
 abbrev pub number_of : List ℕ → Option (ℕ × List ℕ)

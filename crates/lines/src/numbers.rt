@@ -4,8 +4,8 @@ ghost use Rattle.std.specs.Option.{option_map};
 ghost use Rattle.std.specs.List.{take_while};
 ghost use Rattle.lines.specs.Numbers.{is_digit, Digits, worth, taken, number_of, one_number, two_numbers};
 
-// A number has at most this many digits.
-const MOST_DIGITS: usize = 10;
+/// A number has at most this many digits.
+pub const MOST_DIGITS: usize = 10;
 
 // How many digits stand in front.
 fn digit_count(bytes: &[u8]) -> usize
@@ -17,9 +17,9 @@ fn digit_count(bytes: &[u8]) -> usize
         .count()
 }
 
-// What at most ten digits are worth. By hand: for `parse` they would be made a text first, with two failures that cannot happen.
+// What the digits of a number are worth. By hand: for `parse` they would be made a text first, with two failures that cannot happen.
 fn digits_worth(digits: &[u8]) -> u64
-    requires few { length digits.now ≤ 10 }
+    requires few { length digits.now ≤ MOST_DIGITS }
     requires all { Digits digits.now }
     ensures { result ≡ worth digits.now }
 {
@@ -54,7 +54,7 @@ fn read_number(bytes: &[u8]) -> Option<(u32, &[u8])>
 }
 
 // The number that ends a line.
-pub fn last_number(bytes: &[u8]) -> Option<u32>
+pub(crate) fn last_number(bytes: &[u8]) -> Option<u32>
     ensures { result ≡ one_number bytes.now }
 {
     let (number, rest) = read_number(bytes)?;
@@ -65,7 +65,7 @@ pub fn last_number(bytes: &[u8]) -> Option<u32>
 }
 
 // The two numbers that end a line.
-pub fn last_two_numbers(bytes: &[u8]) -> Option<(u32, u32)>
+pub(crate) fn last_two_numbers(bytes: &[u8]) -> Option<(u32, u32)>
     ensures { result ≡ two_numbers bytes.now }
 {
     let (first, rest) = read_number(bytes)?;

@@ -1,14 +1,15 @@
--- A put into the heap, as the waiting list sees it.
-use Rattle.std.proofs.Common.{◌≡◌, ◌+◌, Option, None, Some, Result, Ok, Err, List, [], length, drop, sym, ap, ◌∙◌, subst, Bool, arith}
+-- A put into the heap and a take from it, as the waiting list sees them.
+use Rattle.std.proofs.Common.{◌≡◌, ℕ, ◌+◌, Option, None, Some, Result, Ok, Err, List, [], length, drop, sym, ap, ◌∙◌, subst, Bool, arith}
 use Rattle.std.proofs.lemmas.Bool.Decides.{nat_tests}
+use Rattle.std.proofs.lemmas.List.Edits.{length-insert}
 use Rattle.std.specs.Ordering.{nat_cmp, ordering_then}
 use Rattle.std.specs.List.{insert}
-use Rattle.heap.proofs.Rows.{insert-at-place, length-insert}
-use Rattle.heap.specs.Bounded.{Holding, PutsIn, TakesOut, capacity}
+use Rattle.heap.specs.Bounded.{Holding, PutIn, PutsIn, TakesOut, capacity}
+use Rattle.heap.specs.Laws.{InsertsAtPlace}
 use Rattle.heap.specs.Rows.{Ascends, no_later, place}
 use Rattle.lists.specs.declared.node.Node.{Node}
-use Rattle.lists.specs.Lists.{HeapPuts, HeapTakes}
-use Rattle.lists.specs.Moves.{Puts}
+use Rattle.lists.specs.Lists.{HeapMoves}
+use Rattle.lists.specs.Moves.{Goes, Puts, Put, Take}
 use Rattle.lists.specs.Nodes.{node_le}
 use Rattle.lists.proofs.Stacked.{same}
 
@@ -22,21 +23,37 @@ by_fields a b = grind (arith, nat_tests)
 order_by_fields : by_order ≡ node_le
 order_by_fields = λ i a b. by_fields a b i
 
-put_ascending : {U F : Type 0} (x : Node) (r : Result U F) (old new : Holding Node) → PutsIn node_le x r old new → Puts (λ (h : Holding Node). h.row) capacity HeapPuts x r old new
-put_ascending x (Ok u) old new p =
-    let k = place node_le x old.row in
-    let at = insert-at-place node_le x old.row in
-    let row : new.row ≡ insert old.row k x = p.row ∙ at.1 in
-    let one_more = length-insert node_le x old.row in
-    let long : length (insert old.row k x) ≡ length old.row + 1 = ap (λ (l : List Node). length l) (sym at.1) ∙ one_more in
-    (omega (arith, p.free), (k, at.0, (same new.row (insert old.row k x) new.free _ row (omega (arith, p.free, long)), p.ascends), row))
-put_ascending x (Err f) old new p = (omega (arith, p.0), p.1)
+module _ (at_place : InsertsAtPlace Node) (x : Node) (old new : Holding Node) (p : PutIn node_le x old new) where
+  k : ℕ
+  k = place node_le x old.row
 
-size_kept : {U F : Type 0} (x : Node) (r : Result U F) (old new : Holding Node) → PutsIn node_le x r old new → capacity new ≡ capacity old
-size_kept x (Ok u) old new p = omega (arith, ap (λ (l : List Node). length l) p.row, length-insert node_le x old.row, p.free)
-size_kept x (Err f) old new p = ap capacity p.1
+  row : new.row ≡ insert old.row k x
+  unfolding k
+  row = p.row ∙ (at_place node_le x old.row).1
 
-take_ascending : (r : Option Node) (old new : Holding Node) → TakesOut node_le r old new → HeapTakes old new
+  longer : length new.row ≡ length old.row + 1
+  unfolding k
+  longer = ap (λ (l : List Node). length l) row ∙ length-insert old.row k x (at_place node_le x old.row).0
+
+  size_kept : capacity new ≡ capacity old
+  size_kept = omega (arith, longer, p.free)
+
+  put_ascending : (place : ℕ) × Goes (λ (h : Holding Node). h.row) HeapMoves old (Put x place) new
+  unfolding k
+  put_ascending =
+      let one_more : length (insert old.row k x) ≡ length old.row + 1 = length-insert old.row k x (at_place node_le x old.row).0 in
+      (k, ((same new.row (insert old.row k x) new.free _ row (omega (arith, p.free, one_more)), p.ascends), ((at_place node_le x old.row).0, row)))
+
+module _ (at_place : InsertsAtPlace Node) {U F : Type 0} (x : Node) where
+  put_by : (r : Result U F) (old new : Holding Node) → PutsIn node_le x r old new → Puts (λ (h : Holding Node). h.row) HeapMoves capacity x r old new × (capacity new ≡ capacity old)
+  put_by (Ok u) old new p = ((omega (arith, p.free), put_ascending at_place x old new p), size_kept at_place x old new p)
+  put_by (Err f) old new (full, same) = ((omega (arith, full), (same, ap (λ (h : Holding Node). h.row) same)), ap capacity same)
+
+  -- what comes of a put by the derived order
+  pub placed : (r : Result U F) (old new : Holding Node) → PutsIn by_order x r old new → Puts (λ (h : Holding Node). h.row) HeapMoves capacity x r old new × (capacity new ≡ capacity old)
+  placed r old new p = put_by r old new (let P : (Node → Node → Bool) → Type 0 = λ le. PutsIn le x r old new in subst P order_by_fields p)
+
+take_ascending : (r : Option Node) (old new : Holding Node) → TakesOut node_le r old new → HeapMoves old Take new
 take_ascending None old new p =
     let empty : new.row ≡ [] = ap (λ (h : Holding Node). h.row) p.1 ∙ p.0 in
     let left : drop 1 old.row ≡ [] = ap (drop 1) p.0 in
@@ -45,16 +62,6 @@ take_ascending (Some x) old new p =
     let left : drop 1 old.row ≡ new.row = ap (drop 1) p.row in
     (same new.row (drop 1 old.row) new.free _ (sym left) (omega (arith, p.free, ap (λ (l : List Node). length l) p.row, ap (λ (l : List Node). length l) left)), p.ascends)
 
--- the same of calls by the derived order
-module _ {U F : Type 0} (x : Node) (r : Result U F) (old new : Holding Node) (p : PutsIn by_order x r old new) where
-  put_by_fields : PutsIn node_le x r old new
-  put_by_fields = let P : (Node → Node → Bool) → Type 0 = λ le. PutsIn le x r old new in subst P order_by_fields p
-
-  pub placed : Puts (λ (h : Holding Node). h.row) capacity HeapPuts x r old new
-  placed = put_ascending x r old new put_by_fields
-
-  pub size : capacity new ≡ capacity old
-  size = size_kept x r old new put_by_fields
-
-pub taken : (r : Option Node) (old new : Holding Node) → TakesOut by_order r old new → HeapTakes old new
+-- a take by the derived order
+pub taken : (r : Option Node) (old new : Holding Node) → TakesOut by_order r old new → HeapMoves old Take new
 taken r old new p = let P : (Node → Node → Bool) → Type 0 = λ le. TakesOut le r old new in take_ascending r old new (subst P order_by_fields p)

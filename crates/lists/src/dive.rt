@@ -2,17 +2,17 @@
 ghost use Rattle.std.specs.Prelude.{◌≡◌, ◌+◌, [], ◌++◌, length};
 ghost use Rattle.std.proofs.Common.{arith, length-append};
 ghost use Rattle.heap.specs.Bounded.{capacity as capacity_of};
-ghost use Rattle.lists.specs.Lists.{DiveClears, DivePuts, DiveTakes};
+ghost use Rattle.lists.specs.Lists.{DiveMoves};
 
 use crate::node::Node;
 use crate::waiting::{Full, WaitingList};
 use arrayvec::ArrayVec;
 use std::marker::Model;
 
-// How many nodes a dive keeps itself.
+/// How many nodes a dive keeps itself.
 pub const KEPT: usize = 8;
 
-// Keeps up to eight nodes; further ones go into the list below. A clause sees the nodes kept, newest first, with how many more it keeps, and the list below.
+/// Keeps up to eight nodes; further ones go into the list below. A clause sees the nodes kept, newest first, with how many more it keeps, and the list below.
 #[derive(Drop)]
 pub struct Dive<L> {
     kept: ArrayVec<Node, KEPT>,
@@ -31,7 +31,7 @@ impl<L> Model for Dive<L> {
 }
 
 impl<L> Dive<L> {
-    // Over a list, with no node kept.
+    /// Over a list, with no node kept.
     pub fn new(below: L) -> Dive<L>
         ensures kept { result.kept ≡ record { row = []; free = 8 } }
         ensures below { result.below ≡ below }
@@ -42,7 +42,7 @@ impl<L> Dive<L> {
         }
     }
 
-    // How many nodes it keeps itself.
+    /// How many nodes it keeps itself.
     pub fn kept(&self) -> usize
         ensures count { result ≡ length self.now.kept.row }
         ensures eight { capacity_of self.now.kept ≡ 8 }
@@ -56,11 +56,7 @@ impl<L: WaitingList> WaitingList for Dive<L> {
 
     ghost capacity = { λ d. capacity_of d.kept + L.capacity d.below };
 
-    ghost puts = { DivePuts L.puts };
-
-    ghost takes = { DiveTakes L.takes };
-
-    ghost clears = { DiveClears L.clears };
+    ghost moves = { DiveMoves L.moves };
 
     fn take(&mut self) -> Option<Node> {
         match self.kept.pop() {

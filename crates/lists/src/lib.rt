@@ -1,7 +1,6 @@
 // Waiting lists of nodes.
 #![tactic(auto)]
 
-ghost use Rattle.std.specs.Prelude.{IsTrue};
 ghost use Rattle.lists.specs.Nodes.{NodesOrder};
 
 pub mod dive;
@@ -12,13 +11,10 @@ pub mod waiting;
 
 use crate::node::Node;
 
-// The order of nodes is by bound, then by decided, then by turned.
-pub fn nodes_stand() -> bool
-    ensures order { NodesOrder ⟦<Node as Ord>⟧.cmp }
-    ensures answer { IsTrue result }
-{
-    true
-}
+/// The order of nodes is by bound, then by decided, then by turned.
+pub fn nodes_stand()
+    ensures { NodesOrder ⟦<Node as Ord>⟧.cmp }
+{}
 
 #[cfg(test)]
 mod tests;

@@ -3,8 +3,8 @@ ghost use Rattle.std.proofs.Common.{rules};
 
 use heap::order::TotalOrder;
 
-// It stands for passing orders that cost at least the bound; bit j of `decided` says whether the j-th open meeting is decided, and bit j of `turned` whether its order is turned. The lists only compare the numbers.
-// Its order is by bound, then by decided, then by turned.
+/// It stands for passing orders that cost at least the bound; bit j of `decided` says whether the j-th open meeting is decided, and bit j of `turned` whether its order is turned. The lists only compare the numbers.
+/// Its order is by bound, then by decided, then by turned.
 #[derive(Clone, Copy, Debug, Default, PartialEq, Eq, PartialOrd, Ord)]
 pub struct Node {
     pub bound: u64,

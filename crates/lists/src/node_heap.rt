@@ -1,11 +1,12 @@
 // The heap of nodes as a waiting list: the row ascends.
 ghost use Rattle.std.proofs.Common.{rules};
 ghost use Rattle.heap.specs.Bounded.{capacity as capacity_of};
-ghost use Rattle.lists.specs.Lists.{HeapPuts, HeapTakes, HoldingClears};
+ghost use Rattle.lists.specs.Lists.{HeapMoves};
 
 use crate::node::Node;
 use crate::waiting::{Full, WaitingList};
 use heap::bounded::BoundedHeap;
+use heap::rows_stand;
 
 pub type NodeHeap<'a> = BoundedHeap<'a, Node>;
 
@@ -14,17 +15,14 @@ impl WaitingList for NodeHeap<'_> {
 
     ghost capacity = { capacity_of };
 
-    ghost puts = { HeapPuts };
-
-    ghost takes = { HeapTakes };
-
-    ghost clears = { HoldingClears };
+    ghost moves = { HeapMoves };
 
     fn take(&mut self) -> Option<Node> {
         self.take_first()
     }
 
     fn put(&mut self, node: Node) -> Result<(), Full> {
+        rows_stand::<Node>();
         BoundedHeap::put(self, node)
     }
 

@@ -2,13 +2,13 @@
 ghost use Rattle.std.specs.Prelude.{◌≡◌, [], length};
 ghost use Rattle.std.proofs.Common.{rules};
 ghost use Rattle.heap.specs.Bounded.{capacity as capacity_of};
-ghost use Rattle.lists.specs.Lists.{StackPuts, HoldingClears, HoldingTakes};
+ghost use Rattle.lists.specs.Lists.{StackMoves};
 
 use crate::node::Node;
 use crate::waiting::{Full, WaitingList};
 use std::marker::Model;
 
-// The first `len` places of the memory hold its nodes, the newest last. A clause sees them newest first, and how many more it has room for.
+/// The first `len` places of the memory hold its nodes, the newest last. A clause sees them newest first, and how many more it has room for.
 #[derive(Drop)]
 pub struct Stack<'a> {
     memory: &'a mut [Node],
@@ -29,7 +29,7 @@ impl<'a> Model for Stack<'a> {
 }
 
 impl<'a> Stack<'a> {
-    // An empty stack.
+    /// An empty stack.
     pub fn new(memory: &'a mut [Node]) -> Stack<'a>
         ensures row { result.row ≡ [] }
         ensures free { result.free ≡ length memory.old }
@@ -43,11 +43,7 @@ impl<'a> WaitingList for Stack<'a> {
 
     ghost capacity = { capacity_of };
 
-    ghost puts = { StackPuts };
-
-    ghost takes = { HoldingTakes };
-
-    ghost clears = { HoldingClears };
+    ghost moves = { StackMoves };
 
     fn take(&mut self) -> Option<Node> {
         if self.len == 0 {

@@ -7,6 +7,43 @@ use crate::node_heap::NodeHeap;
 use crate::stack::Stack;
 use crate::waiting::{Full, WaitingList};
 
+// A layer that counts what the list below refuses: a refusal need not leave a list as it was.
+#[derive(Drop)]
+struct Counting<L> {
+    below: L,
+    refused: u64,
+}
+
+impl<L: WaitingList> WaitingList for Counting<L> {
+    ghost nodes = { λ c. L.nodes c.below };
+
+    ghost capacity = { λ c. L.capacity c.below };
+
+    ghost moves = { λ old move new. L.moves old.below move new.below };
+
+    fn take(&mut self) -> Option<Node> {
+        self.below.take()
+    }
+
+    fn put(&mut self, node: Node) -> Result<(), Full> {
+        let put = self.below.put(node);
+        if put.is_err() {
+            self.refused = self.refused.saturating_add(1);
+        }
+        put
+    }
+
+    fn clear(&mut self) {
+        self.below.clear();
+    }
+
+    fn len(&self) -> u64 {
+        self.below.len()
+    }
+
+    ghost bounded = { λ c. L.bounded c.below };
+}
+
 fn node(bound: u64) -> Node {
     Node {
         bound,
@@ -84,6 +121,20 @@ fn dive_over_a_stack(rt: HostRuntime) {
     assert_eq!(rt; fill(&mut list), 10);
     list.clear();
     assert_eq!(rt; next_three(&mut list), ([None; 3], 0));
+}
+
+#[test]
+fn refusals_counted(rt: HostRuntime) {
+    let mut memory = [Node::default(); 3];
+    let mut list = Counting {
+        below: Stack::new(&mut memory),
+        refused: 0,
+    };
+    assert!(rt; list.is_empty());
+    assert_eq!(rt; fill(&mut list), 3);
+    assert!(rt; !list.is_empty());
+    assert_eq!(rt; list.refused, 1);
+    assert_eq!(rt; next_three(&mut list), ([Some(2), Some(1), Some(0)], 0));
 }
 
 #[test]

@@ -10,12 +10,13 @@ use Rattle.meetings.specs.declared.meet.First.TheVariants.{Lower, Other}
 use Rattle.meetings.specs.declared.meet.Meeting.{Meeting}
 use Rattle.meetings.specs.declared.stays.At.{At}
 use Rattle.meetings.specs.declared.stays.Stay.{Stay}
+use Rattle.meetings.specs.Joined.{joined}
 use Rattle.meetings.specs.Laws.{StopOf, stay_of, Meets, Earlier, Precedes, Ascending, MeetingsLaw}
 use Rattle.meetings.specs.Meetings.{is_left_before, meets, meeting_between, meet_with, meetings_of, meetings, stay_in}
 use Rattle.meetings.specs.Stays.{stay_of_stop, path_stays, stays}
 use Rattle.meetings.proofs.Counts.{all_both}
 use Rattle.meetings.proofs.Pairs.{nobody, meet_yes, meet_no}
-use Rattle.meetings.proofs.Places.{upto, upto_rises, upto-at, upto_find, upto_order}
+use Rattle.meetings.proofs.Places.{joined_rises, joined-at, joined_find, joined_order}
 
 pub ascending_from : {X : Type 0} (R : X → X → Type 0) (d : X) (xs : List X) → ((k l : ℕ) → k < l → l < length xs → R (get_or xs k d) (get_or xs l d)) → Ascending R xs
 ascending_from R d [] h = tt
@@ -35,7 +36,7 @@ module _ (ps : List (List Stop)) where
 
   -- the index of a stop's stay
   abbrev pub index_of : At → ℕ
-  index_of a = length (upto f a.shuttle) + a.stop
+  index_of a = length (joined f a.shuttle) + a.stop
 
   length-f : (s : ℕ) → length (f s) ≡ length (path_at ps s)
   length-f s = length-map-range_with_len (stay_of_stop s (path_at ps s)) 0 (length (path_at ps s))
@@ -46,8 +47,8 @@ module _ (ps : List (List Stop)) where
   pub stay_there : (a : At) → StopOf ps a → (index_of a < length (stays ps)) × (stay_in (stays ps) (index_of a) ≡ stay_of ps a)
   stay_there a w =
       let long = length-f a.shuttle in (
-        omega (arith, upto_rises f a.shuttle (length ps) w.0),
-        upto-at f (length ps) a.shuttle a.stop nobody w.0 (omega arith) ∙ f-at a.shuttle a.stop w.1,
+        omega (arith, joined_rises f a.shuttle (length ps) w.0),
+        joined-at f (length ps) a.shuttle a.stop nobody w.0 (omega arith) ∙ f-at a.shuttle a.stop w.1,
       )
 
   pub record Stands (k : ℕ) : Type 0 where
@@ -58,17 +59,22 @@ module _ (ps : List (List Stop)) where
 
   pub stay_found : (k : ℕ) → k < length (stays ps) → Stands k
   stay_found k lt =
-      let r = upto_find f (length ps) k lt in
+      let r = joined_find f (length ps) k lt in
       let a : At = record { shuttle = r.s; stop = r.i } in
       let w : StopOf ps a = (r.list, omega (arith, length-f r.s, r.entry)) in
       record { at = a; within = w; index = r.is; is = ap (stay_in (stays ps)) r.is ∙ (stay_there a w).1 }
 
   pub index_order : (a b : At) → StopOf ps a → StopOf ps b → index_of a < index_of b → Earlier a b
   index_order a b v w lt =
-      upto_order f a.shuttle b.shuttle a.stop b.stop (omega (arith, length-f a.shuttle, v.1)) lt (omega (arith, length-f b.shuttle, w.1))
+      joined_order f a.shuttle b.shuttle a.stop b.stop (omega (arith, length-f a.shuttle, v.1)) lt (omega (arith, length-f b.shuttle, w.1))
 
   pub order_index : (a b : At) → StopOf ps a → StopOf ps b → a.shuttle < b.shuttle → index_of a < index_of b
-  order_index a b v w lt = omega (arith, upto_rises f a.shuttle b.shuttle lt, length-f a.shuttle, v.1)
+  order_index a b v w lt = omega (arith, joined_rises f a.shuttle b.shuttle lt, length-f a.shuttle, v.1)
+
+  pub earlier_index : (a b : At) → StopOf ps a → StopOf ps b → Earlier a b → index_of a < index_of b
+  earlier_index a b v w e =
+      ⊎_elim (λ (less : a.shuttle < b.shuttle). order_index a b v w less)
+      (λ (r : (a.shuttle ≡ b.shuttle) × (a.stop < b.stop)). omega (arith, ap (λ s. length (joined f s)) r.0, r.1)) e
 
   -- a stay of the plan
   abbrev Good : Stay → Type 0

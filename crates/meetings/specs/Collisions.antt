@@ -16,11 +16,15 @@ Enters path t p = (i : ℕ) × (i < length path) × ((stop_at path i).place ≡ 
 abbrev pub Leaves : List Stop → ℕ → ℕ → Type 0
 Leaves path t p = (i : ℕ) × (suc i < length path) × ((stop_at path i).place ≡ p) × ((stop_at path (suc i)).tick ≡ t)
 
--- Two paths collide when both are in one place at a tick, or one enters a place at the tick at which the other leaves it.
+-- Two paths collide at a place when both are in it at a tick, or one enters it at the tick at which the other leaves it.
+abbrev pub CollideAt : List Stop → List Stop → ℕ → Type 0
+CollideAt p q place =
+    (t : ℕ)
+    × ((In p t place × In q t place)
+    ⊎ ((Enters p t place × Leaves q t place) ⊎ (Leaves p t place × Enters q t place)))
+
 abbrev pub Collide : List Stop → List Stop → Type 0
-Collide p q =
-    (t : ℕ) × (place : ℕ)
-    × ((In p t place × In q t place) ⊎ ((Enters p t place × Leaves q t place) ⊎ (Leaves p t place × Enters q t place)))
+Collide p q = (place : ℕ) × CollideAt p q place
 
 abbrev pub SomeCollision : List (List Stop) → Type 0
 SomeCollision ps = (s : ℕ) × (r : ℕ) × (s < r) × (r < length ps) × Collide (path_at ps s) (path_at ps r)

@@ -3,13 +3,14 @@ use Rattle.std.specs.Prelude.{◌≡◌, ℕ, suc, ◌<◌, true, false, ◌⊎�
 use Rattle.std.specs.List.{ContainsAt, AllByRecursion}
 use Rattle.files.specs.declared.plan.Stop.{Stop}
 use Rattle.files.specs.Rules.{stop_at, path_at, PathsKeep}
+use Rattle.meetings.specs.declared.clash.Clash.{Clash}
 use Rattle.meetings.specs.declared.meet.First.{First}
 use Rattle.meetings.specs.declared.meet.First.TheVariants.{Lower, Other}
 use Rattle.meetings.specs.declared.meet.Meeting.{Meeting}
 use Rattle.meetings.specs.declared.stays.At.{At}
 use Rattle.meetings.specs.declared.stays.Stay.{Stay}
-use Rattle.meetings.specs.Collisions.{SomeCollision}
-use Rattle.meetings.specs.Meetings.{meetings, clashes, stay_in, NoClash, is_left_before}
+use Rattle.meetings.specs.Collisions.{CollideAt, SomeCollision, NoCollision}
+use Rattle.meetings.specs.Meetings.{meetings, meeting_between, clashes, stay_in, NoClash, FirstClash, is_left_before}
 use Rattle.meetings.specs.Stays.{stay_of_stop, stays}
 
 -- a stop of a plan
@@ -60,6 +61,11 @@ SomeClash xs = (k : ℕ) × (l : ℕ) × (k < l) × (l < length xs) × (clashes 
 abbrev pub ClashLaw : List (List Stop) → Type 0
 ClashLaw ps = PathsKeep ps → (SomeClash (stays ps) → SomeCollision ps) × (SomeCollision ps → SomeClash (stays ps))
 
+-- And none does exactly when no two paths collide.
+abbrev pub ClearLaw : List (List Stop) → Type 0
+ClearLaw ps =
+    PathsKeep ps → (NoClash (stays ps) → NoCollision ps) × (NoCollision ps → NoClash (stays ps))
+
 -- stop a is left strictly before stop b is entered: there is a following stop, with a tick below that of b
 abbrev pub LeftBefore : List (List Stop) → At → At → Type 0
 LeftBefore ps a b = (suc a.stop < length (path_at ps a.shuttle)) × ((stop_at (path_at ps a.shuttle) (suc a.stop)).tick < (stop_of ps b).tick)
@@ -72,3 +78,22 @@ OneFirst ps m Other = LeftBefore ps m.other m.lower × (LeftBefore ps m.lower m.
 -- Where no two stays clash, exactly one shuttle leaves each meeting strictly before the other enters: the one that goes first in the plan.
 abbrev pub FirstLaw : List (List Stop) → Type 0
 FirstLaw ps = PathsKeep ps → NoClash (stays ps) → (m : Meeting) → ContainsAt (meetings ps) m → OneFirst ps m m.first
+
+-- the meeting of two stops of a plan
+abbrev pub meeting_of_stops : List (List Stop) → At → At → Meeting
+meeting_of_stops ps a b = meeting_between (stay_of ps a) (stay_of ps b)
+
+-- The two stops of a clash are a meeting of the plan, neither is left before the other is entered, and their shuttles collide in its place. At each meeting before it one shuttle leaves before the other enters.
+pub record FirstCollision (ps : List (List Stop)) (c : Clash) : Type 0 where
+  pub meeting : Meets ps (meeting_of_stops ps c.lower c.other)
+  pub lower_stays : LeftBefore ps c.lower c.other → ⊥
+  pub other_stays : LeftBefore ps c.other c.lower → ⊥
+  pub collide :
+      CollideAt (path_at ps c.lower.shuttle) (path_at ps c.other.shuttle) (stop_of ps c.lower).place
+  pub before :
+      (m : Meeting) → Meets ps m → Precedes m (meeting_of_stops ps c.lower c.other)
+      → OneFirst ps m m.first
+
+-- For paths that keep the rules, the first two stays that clash are the first collision in meeting order.
+abbrev pub FirstCollisionLaw : List (List Stop) → Type 0
+FirstCollisionLaw ps = PathsKeep ps → (c : Clash) → FirstClash (stays ps) c → FirstCollision ps c

@@ -1,4 +1,5 @@
 pub mod Collisions
+pub mod Joined
 pub mod Laws
 pub mod Meetings
 pub mod Settled

@@ -1,9 +1,10 @@
 -- The stays of a plan: each stop with the tick at which it is entered and the tick at which it is left.
 use Rattle.std.specs.Prelude.{ℕ, suc, cond, List, map, length, Some, None, Option, nat_lt}
-use Rattle.std.specs.List.{range_with_len, flat_map}
+use Rattle.std.specs.List.{range_with_len}
 use Rattle.files.specs.declared.plan.Stop.{Stop}
 use Rattle.files.specs.Rules.{stop_at, path_at}
 use Rattle.meetings.specs.declared.stays.Stay.{Stay}
+use Rattle.meetings.specs.Joined.{joined}
 
 -- A stop is left at the tick at which the next one is entered; the last is never left.
 abbrev pub leave_at : List Stop → ℕ → Option ℕ
@@ -22,4 +23,4 @@ path_stays s path = map (stay_of_stop s path) (range_with_len 0 (length path))
 
 -- all stays, in shuttle and stop order
 abbrev pub stays : List (List Stop) → List Stay
-stays ps = flat_map (λ s. path_stays s (path_at ps s)) (range_with_len 0 (length ps))
+stays ps = joined (λ s. path_stays s (path_at ps s)) (length ps)

@@ -18,19 +18,24 @@ fn clashing(a: &Stay, b: &Stay) -> bool
     meet(a, b) && !left_before(a, b) && !left_before(b, a)
 }
 
-// The first clash of stays in shuttle and stop order.
+// The first clash of stays in shuttle and stop order: the first pair of stays, an earlier and a later one, that clashes.
 pub(crate) fn first_clash(stays: &[Stay]) -> Result<(), Clash>
     ensures { MatchResult result (λ _. NoClash stays.now) (λ c. FirstClash stays.now c) }
 {
-    for (k, a) in stays.iter().enumerate() {
+    let mut found = None;
+    'pairs: for (k, a) in stays.iter().enumerate() {
         for b in &stays[k + 1..] {
             if clashing(a, b) {
-                return Err(Clash {
+                found = Some(Clash {
                     lower: a.at,
                     other: b.at,
                 });
+                break 'pairs;
             }
         }
     }
-    Ok(())
+    match found {
+        None => Ok(()),
+        Some(clash) => Err(clash),
+    }
 }

@@ -8,7 +8,7 @@ use crate::clash::Clash;
 use crate::stays::{At, Stay};
 use std::alloc::{AllocError, AllocFailed, Global};
 
-// How many meetings a plan may have.
+/// The most meetings that a plan may have.
 pub const MOST_MEETINGS: usize = 256;
 
 // Who goes first at a meeting.
@@ -26,7 +26,7 @@ pub struct Meeting {
     pub first: First,
 }
 
-// Why meetings cannot be settled: over 256 of them, two paths that collide, or want of memory.
+// Why meetings cannot be settled: too many of them, two paths that collide, or want of memory.
 #[derive(Clone, Copy, PartialEq, Eq, Debug)]
 pub enum MeetingFault {
     TooMany,
@@ -88,11 +88,11 @@ fn meeting_of(a: &Stay, b: &Stay) -> Meeting
     }
 }
 
-// The meetings of stays in shuttle and stop order; at most 256.
-pub(crate) fn find_meetings(heap: Global, stays: &[Stay]) -> Result<Vec<Meeting>, MeetingFault>
+// The meetings of stays in shuttle and stop order, unless there are too many.
+pub(crate) fn find_meetings(alloc: Global, stays: &[Stay]) -> Result<Vec<Meeting>, MeetingFault>
     ensures { Found result stays.now }
 {
-    let mut found = Vec::new(heap);
+    let mut found = Vec::new(alloc);
     for (k, a) in stays.iter().enumerate() {
         for b in &stays[k + 1..] {
             if meet(a, b) {

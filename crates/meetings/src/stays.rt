@@ -3,6 +3,7 @@ ghost use Rattle.std.specs.Prelude.{◌≡◌, ◌<◌, ◌++◌, length, IfOk, 
 ghost use Rattle.files.specs.Views.{paths_of};
 ghost use Rattle.meetings.specs.Stays.{leave_at, path_stays, stays};
 
+use files::laws::paths_stand;
 use files::plan::{Path, Stop};
 use std::alloc::{AllocError, Global};
 
@@ -46,10 +47,11 @@ fn add_stays(shuttle: usize, stops: &[Stop], all: &mut Vec<Stay>) -> Result<(), 
 }
 
 // The stays of all paths, in shuttle and stop order.
-pub(crate) fn stays_of(heap: Global, paths: &[Path]) -> Result<Vec<Stay>, AllocError>
+pub(crate) fn stays_of(alloc: Global, paths: &[Path]) -> Result<Vec<Stay>, AllocError>
     ensures { IfOk result (λ v. v.items ≡ stays (paths_of paths.now)) }
 {
-    let mut all = Vec::new(heap);
+    paths_stand();
+    let mut all = Vec::new(alloc);
     for (shuttle, path) in paths.iter().enumerate() {
         add_stays(shuttle, path.stops.as_slice(), &mut all)?;
     }

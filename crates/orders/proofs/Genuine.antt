@@ -9,12 +9,13 @@ use Rattle.files.specs.Layout.{word}
 use Rattle.meetings.specs.declared.meet.First.{First}
 use Rattle.meetings.specs.declared.meet.First.TheVariants.{Lower, Other}
 use Rattle.meetings.specs.declared.meet.Meeting.{Meeting}
-use Rattle.meetings.proofs.Places.{upto, upto-at}
+use Rattle.meetings.specs.Joined.{joined, JoinedLaw}
 use Rattle.orders.specs.declared.waits.Wait.{Wait}
 use Rattle.orders.specs.File.{wait_bytes, body_bytes, body_at, entry_bytes, order_bytes}
 use Rattle.orders.specs.Reading.{EntryIs, LowerWaits, Guessed}
 use Rattle.orders.specs.Waits.{wait_under, waits, nth_wait, is_second, body_of}
-use Rattle.orders.proofs.Bodies.{length-wait_bytes, length-entries, length-bodies}
+use Rattle.orders.proofs.Bodies.{length-wait_bytes}
+use Rattle.orders.proofs.Lengths.{Ordered, length-entries}
 use Rattle.orders.proofs.Zipped.{no_meeting, no_wait, length-waits, waits-at}
 
 -- two bytes make a number
@@ -30,19 +31,19 @@ six_at (x ∷ xs) (suc e) i lt small =
     let k : 6 * suc e + i - 6 ≡ 6 * e + i = omega arith in
     get_or-append_right (wait_bytes x) (flat_map wait_bytes xs) 6 (6 * suc e + i) 0 refl (omega arith) ∙ ap (λ j. get_or (flat_map wait_bytes xs) j 0) k ∙ six_at xs e i (omega arith) small
 
-module _ (n : ℕ) (ws : List Wait) (bs : List ℕ) (is : bs ≡ order_bytes n ws) where
-  length_front : length (word_bytes n ++ upto (entry_bytes n ws) n) ≡ 2 + 4 * n
-  length_front = length-append (word_bytes n) (upto (entry_bytes n ws) n) ∙ omega (arith, length-entries n ws n)
+module _ (joins : JoinedLaw ℕ) (n : ℕ) (ws : List Wait) (bs : List ℕ) (is : bs ≡ order_bytes n ws) where
+  length_front : length (word_bytes n ++ joined (entry_bytes n ws) n) ≡ 2 + 4 * n
+  length_front = length-append (word_bytes n) (joined (entry_bytes n ws) n) ∙ omega (arith, length-entries joins n ws n)
 
   contents_byte : (s i k : ℕ) → s < n → i < 4 → k ≡ 2 + 4 * s + i → get_or bs k 0 ≡ get_or (entry_bytes n ws s) i 0
   contents_byte s i k lt small at =
-      let long = length-entries n ws s in
-      let j : k - 2 ≡ length (upto (entry_bytes n ws) s) + i = omega arith in
+      let long = length-entries joins n ws s in
+      let j : k - 2 ≡ length (joined (entry_bytes n ws) s) + i = omega arith in
       ap (λ l. get_or l k 0) is
-      ∙ get_or_append_left (word_bytes n ++ upto (entry_bytes n ws) n) (upto (body_bytes ws) n) 0 k (omega (arith, length_front))
-      ∙ get_or-append_right (word_bytes n) (upto (entry_bytes n ws) n) 2 k 0 refl (omega arith)
-      ∙ ap (λ m. get_or (upto (entry_bytes n ws) n) m 0) j
-      ∙ upto-at (entry_bytes n ws) n s i 0 lt small
+      ∙ get_or_append_left (word_bytes n ++ joined (entry_bytes n ws) n) (joined (body_bytes ws) n) 0 k (omega (arith, length_front))
+      ∙ get_or-append_right (word_bytes n) (joined (entry_bytes n ws) n) 2 k 0 refl (omega arith)
+      ∙ ap (λ m. get_or (joined (entry_bytes n ws) n) m 0) j
+      ∙ joins.at (entry_bytes n ws) n s i 0 lt small
 
   pub offset_is : (s : ℕ) → s < n → word bs (2 + 4 * s) ≡ body_at n ws s
   offset_is s lt = word_from bs (2 + 4 * s) (body_at n ws s) (contents_byte s 0 _ lt (omega arith) (omega arith)) (contents_byte s 1 _ lt (omega arith) refl)
@@ -52,12 +53,11 @@ module _ (n : ℕ) (ws : List Wait) (bs : List ℕ) (is : bs ≡ order_bytes n w
 
   body_byte : (s e i k : ℕ) → s < n → e < length (body_of s ws) → i < 6 → k ≡ body_at n ws s + 6 * e + i → get_or bs k 0 ≡ get_or (wait_bytes (nth_wait (body_of s ws) e)) i 0
   body_byte s e i k lt in_body small at =
-      let long = length-bodies ws s in
-      let j : k - (2 + 4 * n) ≡ length (upto (body_bytes ws) s) + (6 * e + i) = omega arith in
+      let j : k - (2 + 4 * n) ≡ length (joined (body_bytes ws) s) + (6 * e + i) = omega arith in
       ap (λ l. get_or l k 0) is
-      ∙ get_or-append_right (word_bytes n ++ upto (entry_bytes n ws) n) (upto (body_bytes ws) n) (2 + 4 * n) k 0 length_front (omega arith)
-      ∙ ap (λ m. get_or (upto (body_bytes ws) n) m 0) j
-      ∙ upto-at (body_bytes ws) n s (6 * e + i) 0 lt (omega (arith, length-wait_bytes (body_of s ws)))
+      ∙ get_or-append_right (word_bytes n ++ joined (entry_bytes n ws) n) (joined (body_bytes ws) n) (2 + 4 * n) k 0 length_front (omega arith)
+      ∙ ap (λ m. get_or (joined (body_bytes ws) n) m 0) j
+      ∙ joins.at (body_bytes ws) n s (6 * e + i) 0 lt (omega (arith, length-wait_bytes (body_of s ws)))
       ∙ six_at (body_of s ws) e i in_body small
 
   -- the entry of a wait has its three numbers
@@ -82,10 +82,6 @@ has_kept p (y ∷ ys) x (suc k) lt at e = go (p y) (has_kept p ys x k (omega ari
     go true r = (suc r.0, omega (arith, r.1), λ d. r.2 d)
     go false r = r
 
--- a meeting of shuttles of the plan, the lower first
-abbrev pub Ordered : ℕ → Meeting → Type 0
-Ordered n m = (m.lower.shuttle < m.other.shuttle) × (m.other.shuttle < n)
-
 abbrev pub meeting_at : List Meeting → ℕ → Meeting
 meeting_at ms k = get_or ms k no_meeting
 
@@ -93,7 +89,7 @@ meeting_at ms k = get_or ms k no_meeting
 abbrev pub Apart : List Meeting → Type 0
 Apart ms = (k l : ℕ) → k < l → l < length ms → (meeting_at ms k).lower ≡ (meeting_at ms l).lower → (meeting_at ms k).other ≡ (meeting_at ms l).other → ⊥
 
-module _ (n : ℕ) (ms : List Meeting) (fs : List First) (bs : List ℕ) (is : bs ≡ order_bytes n (waits ms fs)) (len : length fs ≡ length ms) (within : AllByRecursion (Ordered n) ms) (apart : Apart ms) where
+module _ (joins : JoinedLaw ℕ) (n : ℕ) (ms : List Meeting) (fs : List First) (bs : List ℕ) (is : bs ≡ order_bytes n (waits ms fs)) (len : length fs ≡ length ms) (within : AllByRecursion (Ordered n) ms) (apart : Apart ms) where
   same_index : (k l : ℕ) → k < length ms → l < length ms → (meeting_at ms k).lower ≡ (meeting_at ms l).lower → (meeting_at ms k).other ≡ (meeting_at ms l).other → k ≡ l
   same_index k l kl ll p q =
       ⊎_elim (λ (less : k < l). absurd (apart k l less ll p q))
@@ -117,8 +113,8 @@ module _ (n : ℕ) (ms : List Meeting) (fs : List First) (bs : List ℕ) (is : b
       let kw : k < length ws = omega (arith, length-waits ms fs) in
       let has = has_get_or ws k no_wait kw in
       let e = has_kept (is_second s) ws w has.0 has.1 (λ d. has.2 d ∙ here) (eq-eqb s s refl) in
-      let there = subst (EntryIs bs (body_at n ws s + 6 * e.0)) (e.2 no_wait) (entry_there n ws bs is s e.0 sn e.1) in
-      (e.0, omega (arith, count_is n ws bs is s sn, e.1), subst (λ at. EntryIs bs (at + 6 * e.0) w) (sym (offset_is n ws bs is s sn)) there)
+      let there = subst (EntryIs bs (body_at n ws s + 6 * e.0)) (e.2 no_wait) (entry_there joins n ws bs is s e.0 sn e.1) in
+      (e.0, omega (arith, count_is joins n ws bs is s sn, e.1), subst (λ at. EntryIs bs (at + 6 * e.0) w) (sym (offset_is joins n ws bs is s sn)) there)
 
   other_first : (k l : ℕ) → k < length ms → l < length ms → (g : First) → get_or fs l Lower ≡ g → wait_under (meeting_at ms l) g ≡ wait_under (meeting_at ms k) Other → get_or fs k Lower ≡ Other
   other_first k l kl ll Lower gl e =
@@ -139,10 +135,10 @@ module _ (n : ℕ) (ms : List Meeting) (fs : List First) (bs : List ℕ) (is : b
       let s = m.lower.shuttle in
       let sn : s < n = omega (arith, ordered k lt) in
       let body = body_of s ws in
-      let eb : e < length body = omega (arith, count_is n ws bs is s sn) in
-      let given = subst (λ at. EntryIs bs (at + 6 * e) (wait_under m Other)) (offset_is n ws bs is s sn) there in
+      let eb : e < length body = omega (arith, count_is joins n ws bs is s sn) in
+      let given = subst (λ at. EntryIs bs (at + 6 * e) (wait_under m Other)) (offset_is joins n ws bs is s sn) there in
       let x = nth_wait body e in
-      let mine = entry_there n ws bs is s e sn eb in
+      let mine = entry_there joins n ws bs is s e sn eb in
       let shuttle : x.second.shuttle ≡ s = eqb-true _ _ (All-get_or (λ y. is_second s y ≡ true) body e no_wait eb (kept_by_passes (is_second s) ws)) in
       let same : x ≡ wait_under m Other = (λ i. record { second = record { shuttle = shuttle i; stop = (sym mine.0 ∙ given.0) i }; awaited = record { shuttle = (sym mine.1 ∙ given.1) i; stop = (sym mine.2 ∙ given.2) i } }) in
       let has = All-get_or (ContainsAt ws) body e no_wait eb (all_kept_by (is_second s) (ContainsAt ws) ws (all_has_itself ws)) in

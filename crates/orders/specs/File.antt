@@ -1,7 +1,8 @@
 -- The order file: the number of shuttles; for each the offset of its body and the number of its waits; then the bodies.
-use Rattle.std.specs.Prelude.{◌≡◌, ℕ, ◌+◌, ◌*◌, ◌<◌, List, ◌++◌, length, take, drop, Ok, Err, sum_by, Result}
-use Rattle.std.specs.List.{range_with_len, flat_map}
+use Rattle.std.specs.Prelude.{◌≡◌, ℕ, ◌+◌, ◌*◌, ◌<◌, List, ◌++◌, length, take, drop, Ok, Err, Result}
+use Rattle.std.specs.List.{flat_map}
 use Rattle.files.specs.Bytes.{word_bytes}
+use Rattle.meetings.specs.Joined.{joined}
 use Rattle.orders.specs.declared.waits.Wait.{Wait}
 use Rattle.orders.specs.declared.write.OrderFault.{OrderFault}
 use Rattle.orders.specs.declared.write.OrderFault.TheVariants.{Short}
@@ -17,19 +18,15 @@ FitsWait w = (w.second.stop < 65536) × (w.awaited.shuttle < 65536) × (w.awaite
 abbrev pub body_bytes : List Wait → ℕ → List ℕ
 body_bytes ws s = flat_map wait_bytes (body_of s ws)
 
--- the waits of all shuttles below s
-abbrev pub before : List Wait → ℕ → ℕ
-before ws s = sum_by (λ r. length (body_of r ws)) (range_with_len 0 s)
-
--- where the body of shuttle s begins
+-- where the body of shuttle s begins: behind the contents, and the bodies of all shuttles before it
 abbrev pub body_at : ℕ → List Wait → ℕ → ℕ
-body_at n ws s = 2 + 4 * n + 6 * before ws s
+body_at n ws s = 2 + 4 * n + length (joined (body_bytes ws) s)
 
 abbrev pub entry_bytes : ℕ → List Wait → ℕ → List ℕ
 entry_bytes n ws s = word_bytes (body_at n ws s) ++ word_bytes (length (body_of s ws))
 
 abbrev pub order_bytes : ℕ → List Wait → List ℕ
-order_bytes n ws = word_bytes n ++ flat_map (entry_bytes n ws) (range_with_len 0 n) ++ flat_map (body_bytes ws) (range_with_len 0 n)
+order_bytes n ws = word_bytes n ++ joined (entry_bytes n ws) n ++ joined (body_bytes ws) n
 
 -- bytes written over a buffer from a place on
 abbrev pub over : List ℕ → ℕ → List ℕ → List ℕ

@@ -9,7 +9,7 @@ use Rattle.orders.specs.Plans.{plan_orders}
 
 -- the bytes are the file of these orders, one for each meeting of the plan
 abbrev pub FileOf : Plan → List First → List ℕ → Type 0
-FileOf p fs bs = (length fs ≡ length (vec_items p.meetings)) × (bs ≡ plan_orders p fs)
+FileOf p fs bs = (length fs ≡ length p.meetings) × (bs ≡ plan_orders p fs)
 
 -- The answer is the only orders whose file the bytes are; or they are the file of none. Want of memory says nothing of the bytes.
 abbrev pub ReadsOrders : Result (Vec First Global) ReadFault → Plan → List ℕ → Type 0

@@ -1,6 +1,7 @@
 // Reading an order file back: the orders whose file it is, or that it is the file of none.
 ghost use Rattle.std.specs.Prelude.{◌≡◌, ◌^◌, ◌<◌, MatchBool, IsTrue, ◌↔◌, ◌≢◌, slice_index};
 ghost use Rattle.files.specs.Layout.{word};
+ghost use Rattle.plans.specs.Kept.{IsKept};
 ghost use Rattle.orders.specs.declared.read.ReadFault.TheVariants.{Memory};
 ghost use Rattle.orders.specs.Plans.{plan_orders};
 ghost use Rattle.orders.specs.Reading.{EntryIs, Lists, Guessed, Guesses};
@@ -8,7 +9,8 @@ ghost use Rattle.orders.specs.RoundTrip.{ReadsOrders};
 ghost use Rattle.orders.specs.Waits.{FitsMeeting};
 
 use crate::waits::{Wait, wait_of};
-use crate::write::{OrderFault, ROOM_FOR_ORDERS, write_orders};
+use crate::write::{ROOM_FOR_ORDERS, write_orders};
+use meetings::laws::{joins_stand, meetings_stand};
 use meetings::meet::{First, Meeting};
 use plans::plan::Plan;
 use std::alloc::{AllocError, AllocFailed, Global};
@@ -92,8 +94,10 @@ fn guess(bytes: &[u8], meeting: &Meeting) -> First
 
 // The guess at each meeting of the plan.
 fn guesses(heap: Global, bytes: &[u8], plan: &Plan) -> Result<Vec<First>, ReadFault>
-    ensures { Guesses result bytes.now plan.now.meetings.items }
+    ensures value { Guesses result bytes.now plan.now.meetings }
+    ensures kept { IsKept plan.now }
 {
+    meetings_stand();
     let mut firsts = Vec::new(heap);
     for meeting in plan.meetings() {
         firsts.push(guess(bytes, meeting))?;
@@ -107,17 +111,16 @@ fn is_file(plan: &Plan, firsts: &[First], bytes: &[u8]) -> bool
 {
     // An array, so that the comparison itself cannot fail for want of memory.
     let mut scratch = [0u8; ROOM_FOR_ORDERS];
-    // A `match`, since the length is within the buffer by what a written file promises.
-    match write_orders(plan, firsts, &mut scratch) {
-        Ok(len) => &scratch[..len] == bytes,
-        Err(OrderFault::Short) => false,
-    }
+    let len = write_orders(plan, firsts, &mut scratch).unwrap();
+    &scratch[..len] == bytes
 }
 
 // The orders whose file these bytes are, one for each meeting of the plan.
 pub fn read_orders(heap: Global, plan: &Plan, bytes: &[u8]) -> Result<Vec<First>, ReadFault>
     ensures { ReadsOrders result plan.now bytes.now }
 {
+    meetings_stand();
+    joins_stand::<u8>();
     let firsts = guesses(heap, bytes, plan)?;
     if is_file(plan, firsts.as_slice(), bytes) {
         Ok(firsts)

@@ -5,6 +5,7 @@ ghost use Rattle.meetings.specs.declared.meet.First.{First};
 ghost use Rattle.meetings.specs.declared.meet.Meeting.{Meeting};
 ghost use Rattle.orders.specs.Waits.{stops_in_order, wait_under, wait_by_number, firsts_of, own_waits, FitsMeeting};
 
+use meetings::laws::meetings_stand;
 use meetings::meet::{First, Meeting};
 use meetings::stays::At;
 use plans::plan::Plan;
@@ -44,15 +45,16 @@ pub(crate) fn wait_of(meeting: &Meeting, first: First) -> Wait
 
 // The wait at a meeting of the plan, by its number and who goes first, if there is such a meeting.
 pub fn wait_at(plan: &Plan, meeting: usize, first: First) -> Option<Wait>
-    ensures { result ≡ wait_by_number plan.now.meetings.items meeting first }
+    ensures { result ≡ wait_by_number plan.now.meetings meeting first }
 {
+    meetings_stand();
     let met = plan.meetings().get(meeting)?;
     Some(wait_of(met, first))
 }
 
 // Who goes first in the plan, at each of its meetings.
 pub fn plan_firsts(heap: Global, plan: &Plan) -> Result<Vec<First>, AllocError>
-    ensures { IfOk result (λ v. v.items ≡ firsts_of plan.now.meetings.items) }
+    ensures { IfOk result (λ v. v.items ≡ firsts_of plan.now.meetings) }
 {
     plan.meetings()
         .iter()
@@ -62,8 +64,9 @@ pub fn plan_firsts(heap: Global, plan: &Plan) -> Result<Vec<First>, AllocError>
 
 // The waits of the plan's own orders, in meeting order.
 pub fn plan_waits(heap: Global, plan: &Plan) -> Result<Vec<Wait>, AllocError>
-    ensures { IfOk result (λ v. v.items ≡ own_waits plan.now.meetings.items) }
+    ensures { IfOk result (λ v. v.items ≡ own_waits plan.now.meetings) }
 {
+    meetings_stand();
     let mut all = Vec::new(heap);
     for meeting in plan.meetings() {
         all.push(wait_of(meeting, meeting.first))?;

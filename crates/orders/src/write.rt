@@ -1,16 +1,19 @@
 // Writing an order file into a buffer.
-ghost use Rattle.std.specs.Prelude.{◌≡◌, ◌+◌, ◌*◌, ◌<◌, ◌≤◌, length};
+ghost use Rattle.std.specs.Prelude.{◌≡◌, ◌+◌, ◌*◌, ◌<◌, ◌≤◌, length, IsOk};
 ghost use Rattle.files.specs.Bytes.{word_bytes};
-ghost use Rattle.orders.specs.File.{wait_bytes, body_bytes, body_at, order_bytes, over, FitsWait, Written};
-ghost use Rattle.orders.specs.Plans.{plan_orders, shuttles_of, waits_of, contents_bytes, bodies_bytes};
+ghost use Rattle.orders.specs.File.{wait_bytes, body_bytes, over, FitsWait, Written};
+ghost use Rattle.orders.specs.Plans.{plan_orders, orders_length, shuttles_of, waits_of};
+ghost use Rattle.orders.specs.Plans.{contents_bytes, bodies_bytes, file_bytes, file_length};
 ghost use Rattle.orders.specs.Waits.{body_of};
 
 use crate::waits::{Wait, count_second, wait_of};
-use meetings::meet::First;
+use files::plan::MOST_SHUTTLES;
+use meetings::laws::{joins_stand, meetings_stand};
+use meetings::meet::{First, MOST_MEETINGS};
 use plans::plan::Plan;
 
-// No order file has as many bytes.
-pub const ROOM_FOR_ORDERS: usize = 50000;
+/// Room for any order file: the number of shuttles, an entry for each, and a wait for each meeting.
+pub const ROOM_FOR_ORDERS: usize = 2 + 4 * MOST_SHUTTLES + 6 * MOST_MEETINGS;
 
 // The buffer is shorter than the file.
 #[derive(Clone, Copy, PartialEq, Eq, Debug)]
@@ -48,7 +51,7 @@ impl<'a> Orders<'a> {
     // How many shuttles the plan has.
     fn shuttles(&self) -> usize
         ensures value { result ≡ shuttles_of self.now }
-        ensures few { result ≤ 32 }
+        ensures few { result ≤ MOST_SHUTTLES }
     {
         self.plan.paths().len()
     }
@@ -56,7 +59,7 @@ impl<'a> Orders<'a> {
     // How many waits a shuttle has.
     fn count(&self, shuttle: usize) -> usize
         ensures count { result ≡ length (body_of shuttle (waits_of self.now)) }
-        ensures few { result ≤ 256 }
+        ensures few { result ≤ MOST_MEETINGS }
     {
         count_second(self.plan.meetings(), self.firsts, shuttle)
     }
@@ -67,6 +70,7 @@ impl<'a> Orders<'a> {
         ensures bytes { out.new ≡ over out.old at (body_bytes (waits_of self.now) shuttle) }
         ensures next { result ≡ at + length (body_bytes (waits_of self.now) shuttle) }
     {
+        meetings_stand();
         let mut next = at;
         for (meeting, first) in self.plan.meetings().iter().zip(self.firsts) {
             let wait = wait_of(meeting, *first);
@@ -83,6 +87,7 @@ impl<'a> Orders<'a> {
         requires { 2 + 4 * shuttles_of self.now + length (bodies_bytes self.now) ≤ length out.old }
         ensures { out.new ≡ over out.old (2 + 4 * shuttles_of self.now) (bodies_bytes self.now) }
     {
+        joins_stand::<u8>();
         let shuttles = self.shuttles();
         let mut at = 2 + 4 * shuttles;
         for shuttle in 0..shuttles {
@@ -95,6 +100,7 @@ impl<'a> Orders<'a> {
         requires { 2 + 4 * shuttles_of self.now ≤ length out.old }
         ensures { out.new ≡ over out.old 2 (contents_bytes self.now) }
     {
+        joins_stand::<u8>();
         let shuttles = self.shuttles();
         let mut at = 2;
         let mut begin = 2 + 4 * shuttles;
@@ -109,19 +115,22 @@ impl<'a> Orders<'a> {
 
     // How long the file is.
     fn file_len(&self) -> usize
-        ensures { result ≡ body_at (shuttles_of self.now) (waits_of self.now) (shuttles_of self.now) }
+        ensures bytes { result ≡ length (file_bytes self.now) }
+        ensures value { result ≡ file_length self.now }
+        ensures few { result ≤ ROOM_FOR_ORDERS }
     {
-        let shuttles = self.shuttles();
-        let mut end = 2 + 4 * shuttles;
-        for shuttle in 0..shuttles {
-            end += 6 * self.count(shuttle);
-        }
-        end
+        meetings_stand();
+        joins_stand::<u8>();
+        let waits = self.plan.meetings().len().min(self.firsts.len());
+        2 + 4 * self.shuttles() + 6 * waits
     }
 
     fn put_file(&self, out: &mut [u8]) -> Result<usize, OrderFault>
-        ensures { Written result (order_bytes (shuttles_of self.now) (waits_of self.now)) out.old out.new }
+        ensures written { Written result (file_bytes self.now) out.old out.new }
+        ensures size { length (file_bytes self.now) ≡ file_length self.now }
+        ensures room { ROOM_FOR_ORDERS ≤ length out.old → IsOk result }
     {
+        joins_stand::<u8>();
         let len = self.file_len();
         if out.len() < len {
             return Err(OrderFault::Short);
@@ -133,9 +142,12 @@ impl<'a> Orders<'a> {
     }
 }
 
-// Writes the order file of a plan, by who goes first at each meeting, into the front of a buffer, and answers its length.
+/// Writes the order file of a plan, by who goes first at each meeting, into the front of a buffer, and
+/// answers its length. A meeting without a first, and a first without a meeting, are left out.
 pub fn write_orders(plan: &Plan, firsts: &[First], out: &mut [u8]) -> Result<usize, OrderFault>
-    ensures { Written result (plan_orders plan.now firsts.now) out.old out.new }
+    ensures written { Written result (plan_orders plan.now firsts.now) out.old out.new }
+    ensures size { length (plan_orders plan.now firsts.now) ≡ orders_length plan.now firsts.now }
+    ensures room { ROOM_FOR_ORDERS ≤ length out.old → IsOk result }
 {
     Orders { plan, firsts }.put_file(out)
 }

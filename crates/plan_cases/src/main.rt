@@ -8,10 +8,11 @@
 use meetings::meet::First;
 use orders::read::read_orders;
 use orders::waits::plan_firsts;
-use orders::write::{OrderFault, ROOM_FOR_ORDERS, write_orders};
+use orders::write::{ROOM_FOR_ORDERS, write_orders};
 use plans::plan::Plan;
 use plans::plan::opening::read_plan;
-use report::answer_text;
+use refusals::Refusal;
+use report::{answer_text, refusal_line};
 
 fn print_hex(rt: &HostRuntime, bytes: &[u8]) -> anyhow::Result<()> {
     let digits = hex::encode(rt.alloc(), bytes)?;
@@ -24,7 +25,11 @@ fn print_written(rt: &HostRuntime, plan: &Plan, out: &mut [u8]) -> anyhow::Resul
     let firsts = plan_firsts(rt.alloc(), plan)?;
     match write_orders(plan, firsts.as_slice(), out) {
         Ok(len) => print!(rt; "{len} bytes ")?,
-        Err(OrderFault::Short) => print!(rt; "no 16 ")?,
+        Err(fault) => {
+            let line = refusal_line(rt.alloc(), Refusal::from(fault))?;
+            let words = line.as_str().trim_end();
+            print!(rt; "{words} ")?
+        }
     }
     print_hex(rt, out)
 }

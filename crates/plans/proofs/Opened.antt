@@ -1,80 +1,78 @@
 -- A plan is opened exactly when its file and its paths keep all rules.
-use Rattle.std.proofs.Common.{◌≡◌, ℕ, ◌≤◌, List, length, Ok, Err, vec_items, Result, sym, refl, ap, ◌∙◌, subst, arith}
+use Rattle.std.proofs.Common.{◌≡◌, ℕ, ◌≤◌, List, length, Ok, Err, Result, sym, refl, ap, ◌∙◌, subst, arith}
 use Rattle.std.specs.List.{ContainsAt}
 use Rattle.std.proofs.lemmas.Bool.{both_ways}
 use Rattle.files.specs.declared.layout.FileFault.TheVariants.{Torn}
 use Rattle.files.specs.declared.layout.FileFault.TheVariants as file
-use Rattle.files.specs.declared.plan.Path as plan
-use Rattle.files.specs.declared.plan.PlanFile.{PlanFile}
+use Rattle.files.specs.declared.layout.FileFault.{FileFault}
 use Rattle.files.specs.declared.plan.Stop.{Stop}
 use Rattle.files.specs.declared.rules.PathFault.{PathFault}
 use Rattle.files.specs.declared.rules.PathFault.TheVariants.{Start, Tick, Place}
 use Rattle.files.specs.Bytes.{ReadsExactly}
 use Rattle.files.specs.Layout.{Layout, layout}
-use Rattle.files.specs.Rules.{PathsKeep, FirstOffence}
-use Rattle.files.specs.Views.{paths_of, layout_of}
-use Rattle.files.proofs.Rows.{same_ok}
+use Rattle.files.specs.Rules.{path_at, Keeps, PathsKeep, FirstOffence, offender, offence}
+use Rattle.files.specs.Views.{layout_of, Gives}
 use Rattle.meetings.specs.declared.meet.Meeting.{Meeting}
 use Rattle.meetings.specs.declared.meet.MeetingFault.{MeetingFault}
 use Rattle.meetings.specs.declared.meet.MeetingFault.TheVariants as meeting
+use Rattle.meetings.specs.declared.meet.TheConstants.{MOST_MEETINGS}
+use Rattle.meetings.specs.Laws.{MeetingsLaw, ClearLaw, FirstLaw, FirstCollisionLaw}
 use Rattle.meetings.specs.Meetings.{meetings, NoClash, FirstClash}
 use Rattle.meetings.specs.Settled.{Settled}
 use Rattle.meetings.specs.Stays.{stays}
-use Rattle.meetings.proofs.Clashing.{no_collision, no_clash, first_law}
-use Rattle.meetings.proofs.Stands.{meetings_law}
 use Rattle.plans.specs.declared.plan.Plan.{Plan}
 use Rattle.plans.specs.declared.plan.opening.PlanFault.{PlanFault}
 use Rattle.plans.specs.declared.plan.opening.PlanFault.TheVariants.{File, Path, Meetings}
-use Rattle.plans.specs.Kept.{Kept}
-use Rattle.plans.specs.Opening.{plan_layout, Opens, Takable, Takes, OpensExactly, FirstsStand}
+use Rattle.plans.specs.Kept.{plan_layout, IsKept}
+use Rattle.plans.specs.Opening.{Opens, Takable, Takes, OpensExactly, FirstsStand, GivesFirstCollision}
 
-pub opened :
-    (bs : List ℕ) (l : Layout) (ms : List Meeting) → ReadsExactly bs → layout bs ≡ Ok l → PathsKeep l.paths
-    → (ms ≡ meetings l.paths) × (length (meetings l.paths) ≤ 256) × NoClash (stays l.paths) → Kept l.paths l.tables ms
-opened bs l ms exact read rules s =
-    record { limits = ((exact l).0 read).1; rules = rules; few = s.1; clear = no_collision l.paths rules s.2; listed = s.0 }
+pub same_ok : {X E : Type 0} {x y : X} → ◌≡◌ {A = Result X E} (Ok x) (Ok y) → x ≡ y
+same_ok e = cc
 
--- the same from what was judged: paths that are those of the file
-pub opened_from :
-    (bs : List ℕ) (f : PlanFile) (judged met : List plan.Path) (ms : List Meeting) → ReadsExactly bs → layout bs ≡ Ok (layout_of f)
-    → judged ≡ vec_items f.paths → PathsKeep (paths_of judged) → met ≡ vec_items f.paths
-    → (ms ≡ meetings (paths_of met)) × (length (meetings (paths_of met)) ≤ 256) × NoClash (stays (paths_of met)) → Kept (layout_of f).paths (layout_of f).tables ms
-opened_from bs f judged met ms exact read j rules m s =
-    opened bs (layout_of f) ms exact read (subst (λ (ps : List plan.Path). PathsKeep (paths_of ps)) j rules)
-    (subst (λ (ps : List plan.Path). (ms ≡ meetings (paths_of ps)) × (length (meetings (paths_of ps)) ≤ 256) × NoClash (stays (paths_of ps))) m s)
+pub same_err : {X E : Type 0} {d e : E} → ◌≡◌ {A = Result X E} (Err d) (Err e) → d ≡ e
+same_err e = cc
 
--- what is wrong with the meetings is said of the plan
-pub unsettled : (bs : List ℕ) (l : Layout) (e : MeetingFault) → layout bs ≡ Ok l → PathsKeep l.paths → Settled (Err e) l.paths → Opens (Err (Meetings e)) bs
-unsettled bs l meeting.TooMany read rules s = (record { plan = l; read = read; rules = rules }, s)
-unsettled bs l (meeting.Collision c) read rules s = (record { plan = l; read = read; rules = rules }, s.0, s.1)
-unsettled bs l meeting.Memory read rules s = tt
+pub not_both : {X E : Type 0} {x : X} {e : E} → ◌≡◌ {A = Result X E} (Ok x) (Err e) → ⊥
+not_both e = cc
 
-keeps_no_offence : (ps : List (List Stop)) (f : PathFault) → PathsKeep ps → FirstOffence ps f → ⊥
-keeps_no_offence ps (Start s) keeps o = o.here.broken ((keeps s o.within 0 o.here.within).starts refl)
-keeps_no_offence ps (Tick s i) keeps o =
-    let b = o.here.broken in omega (arith, (keeps s o.within i o.here.within).rises b.0, b.1)
-keeps_no_offence ps (Place s i) keeps o =
-    let b = o.here.broken in (keeps s o.within i o.here.within).differs b.0 b.2
+-- the rule that an offence breaks is broken at its stop
+pub breaks_rule : (ps : List (List Stop)) (f : PathFault) → FirstOffence ps f → Keeps (path_at ps (offender f)) (offence f) → ⊥
+breaks_rule ps (Start s) o k = o.here.broken (k.starts refl)
+breaks_rule ps (Tick s i) o k = let b = o.here.broken in omega (arith, k.rises b.0, b.1)
+breaks_rule ps (Place s i) o k = let b = o.here.broken in k.differs b.0 b.2
 
-never : (d : Result Layout ℕ) (l : Layout) (p : ℕ) → d ≡ Ok l → d ≡ Err p → ⊥
-never d l p a b = let z : ◌≡◌ {A = ℕ} 0 1 = cc in omega arith
+pub keeps_no_offence : (ps : List (List Stop)) (f : PathFault) → PathsKeep ps → FirstOffence ps f → ⊥
+keeps_no_offence ps f keeps o = breaks_rule ps f o (keeps (offender f) o.within (offence f) o.here.within)
 
-module _ (bs : List ℕ) (exact : ReadsExactly bs) where
+module _ (bs : List ℕ) where
+  -- what is wrong with the file, and with the meetings of its paths, is said of the plan
+  pub torn : (e : FileFault) → Gives layout_of (Err e) (layout bs) → Opens (Err (File e)) bs
+  torn (Torn place) g = g
+  torn file.Memory g = tt
+
+  pub unsettled : (l : Layout) (e : MeetingFault) → layout bs ≡ Ok l → PathsKeep l.paths → Settled (Err e) l.paths → Opens (Err (Meetings e)) bs
+  unsettled l meeting.TooMany read rules s = (record { plan = l; read = read; rules = rules }, s)
+  unsettled l (meeting.Collision c) read rules s = (record { plan = l; read = read; rules = rules }, s.0, s.1)
+  unsettled l meeting.Memory read rules s = tt
+
+module _ (bs : List ℕ) (exact : ReadsExactly bs) (clear : (ps : List (List Stop)) → ClearLaw ps) where
+  pub kept :
+      (l : Layout) (ms : List Meeting) → layout bs ≡ Ok l → PathsKeep l.paths
+      → (ms ≡ meetings l.paths) × (length (meetings l.paths) ≤ MOST_MEETINGS) × NoClash (stays l.paths) → IsKept (record { paths = l.paths; tables = l.tables; meetings = ms })
+  kept l ms read rules s = record { limits = ((exact l).0 read).1; rules = rules; few = s.1; clear = (clear l.paths rules).0 s.2; listed = s.0 }
+
+  -- what was read of the file of a plan is that plan
+  same_plan : (l m : Layout) → Takable bs l → layout bs ≡ Ok m → m ≡ l
+  same_plan l m t e = same_ok (sym e ∙ (exact l).1 t.bytes t.limits)
+
   takable : (p : Plan) → Opens (Ok p) bs → Takable bs (plan_layout p)
   takable p o =
       let w = (exact (plan_layout p)).0 o.0 in
       record { bytes = w.0; limits = w.1; rules = o.1.rules; few = o.1.few; clear = o.1.clear }
 
-  read_is : (l : Layout) → Takable bs l → layout bs ≡ Ok l
-  read_is l t = (exact l).1 t.bytes t.limits
-
-  -- what was read otherwise is the same plan
-  same_plan : (l m : Layout) → Takable bs l → layout bs ≡ Ok m → m ≡ l
-  same_plan l m t e = same_ok (sym e ∙ read_is l t)
-
   takes : (r : Result Plan PlanFault) → Opens r bs → (l : Layout) → Takable bs l → Takes r l
   takes (Ok p) o l t = same_plan l (plan_layout p) t o.0
-  takes (Err (File (Torn place))) o l t = absurd (never (layout bs) l place (read_is l t) o)
+  takes (Err (File (Torn place))) o l t = absurd (not_both (sym ((exact l).1 t.bytes t.limits) ∙ o))
   takes (Err (File file.Memory)) o l t = refl
   takes (Err (Path f)) o l t =
       absurd (keeps_no_offence l.paths f t.rules (subst (λ (m : Layout). FirstOffence m.paths f) (same_plan l o.0 t o.1) o.2))
@@ -82,17 +80,18 @@ module _ (bs : List ℕ) (exact : ReadsExactly bs) where
       absurd (omega (arith, t.few, o.1, ap (λ (m : Layout). length (meetings m.paths)) (same_plan l o.0.plan t o.0.read)))
   takes (Err (Meetings (meeting.Collision c))) o l t =
       let f = subst (λ (m : Layout). FirstClash (stays m.paths) c) (same_plan l o.0.plan t o.0.read) o.2 in
-      absurd (both_ways _ (no_clash l.paths t.rules t.clear f.a f.b f.ordered f.within) f.clash)
+      absurd (both_ways _ ((clear l.paths t.rules).1 t.clear f.a f.b f.ordered f.within) f.clash)
   takes (Err (Meetings meeting.Memory)) o l t = refl
 
   pub opens_exactly : (r : Result Plan PlanFault) → Opens r bs → OpensExactly r bs
   opens_exactly r o = (λ p e. takable p (subst (λ (q : Result Plan PlanFault). Opens q bs) e o), takes r o)
 
-pub firsts_stand : (bs : List ℕ) (r : Result Plan PlanFault) → Opens r bs → FirstsStand r
-firsts_stand bs (Ok p) o =
-    let ps = (plan_layout p).paths in
-    let k = o.1 in
-    λ m h.
+pub firsts_stand : (p : Plan) → MeetingsLaw p.paths → ClearLaw p.paths → FirstLaw p.paths → IsKept p → FirstsStand (Ok p)
+firsts_stand p listed clear first k m h =
     let there = subst (λ (l : List Meeting). ContainsAt l m) k.listed h in
-    ((meetings_law ps).sound m there, first_law ps k.rules (no_clash ps k.rules k.clear) m there)
-firsts_stand bs (Err e) o = tt
+    (listed.sound m there, first k.rules ((clear k.rules).1 k.clear) m there)
+
+pub gives_first_collision : (bs : List ℕ) → ((ps : List (List Stop)) → FirstCollisionLaw ps) → (r : Result Plan PlanFault) → Opens r bs → GivesFirstCollision r bs
+gives_first_collision bs law r o c e =
+    let given : Opens (Err (Meetings (meeting.Collision c))) bs = subst (λ (q : Result Plan PlanFault). Opens q bs) e o in
+    (given.0, law given.0.plan.paths given.0.rules c given.2)

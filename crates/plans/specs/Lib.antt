@@ -1,2 +1,4 @@
 pub mod Kept
 pub mod Opening
+pub mod Refusals
+pub mod Shown

@@ -1,12 +1,12 @@
 -- The lines that the register prints.
-use Rattle.std.specs.Prelude.{ℕ, suc, List, [], ◌∷◌, ◌++◌, length, Some, None, Ok, Err, vec_items, codes, decimal, sum_by, Option, Result}
+use Rattle.std.specs.Prelude.{ℕ, suc, List, [], ◌∷◌, ◌++◌, length, Some, None, Ok, Err, codes, decimal, sum_by, Option, Result}
 use Rattle.std.specs.List.{flat_map}
 use Rattle.files.specs.declared.plan.Stop.{Stop}
 use Rattle.orders.specs.declared.waits.Wait.{Wait}
 use Rattle.orders.specs.Waits.{own_waits}
 use Rattle.plans.specs.declared.plan.Plan.{Plan}
 use Rattle.plans.specs.declared.plan.opening.PlanFault.{PlanFault}
-use Rattle.plans.specs.Opening.{Refusal, refusal, plan_layout}
+use Rattle.plans.specs.Refusals.{NumberAndValues, plan_refusal}
 
 abbrev pub end_line : List ℕ
 end_line = 10 ∷ []
@@ -29,8 +29,8 @@ path_texts shuttle (path ∷ paths) = path_text shuttle path ++ path_texts (suc 
 -- the numbers of shuttles, stops, tables and meetings
 abbrev pub counts_text : Plan → List ℕ
 counts_text p =
-    codes "plan" ++ spaced (length (plan_layout p).paths) ++ spaced (sum_by length (plan_layout p).paths) ++ spaced (length (plan_layout p).tables)
-    ++ spaced (length (vec_items p.meetings)) ++ end_line
+    codes "plan" ++ spaced (length p.paths) ++ spaced (sum_by length p.paths) ++ spaced (length p.tables)
+    ++ spaced (length p.meetings) ++ end_line
 
 -- which stop of which shuttle waits for which stop of which other shuttle
 abbrev pub wait_text : Wait → List ℕ
@@ -43,23 +43,17 @@ wait_texts ws = flat_map wait_text ws
 
 -- the plan: its counts, its paths, and the waits of its own orders
 abbrev pub text_of_plan : Plan → List ℕ
-text_of_plan p = counts_text p ++ path_texts 0 (plan_layout p).paths ++ wait_texts (own_waits (vec_items p.meetings))
+text_of_plan p = counts_text p ++ path_texts 0 p.paths ++ wait_texts (own_waits p.meetings)
 
 -- what writing the order file involved
 abbrev pub orders_text : ℕ → ℕ → List ℕ
 orders_text meetings bytes = codes "orders.bin: " ++ decimal meetings ++ codes " meetings, " ++ decimal bytes ++ codes " bytes" ++ end_line
 
--- a refusal with its number and values
-abbrev pub numbered_text : ℕ → List ℕ → List ℕ
-numbered_text number values = codes "no" ++ spaced number ++ flat_map spaced values ++ end_line
-
-abbrev pub refused_text : Option Refusal → List ℕ
-refused_text (Some r) = numbered_text r.number r.values
-refused_text None = codes "no memory" ++ end_line
-
-abbrev pub refusal_text : PlanFault → List ℕ
-refusal_text f = refused_text (refusal f)
+-- a refusal with its number and its values, or want of memory, which has none
+abbrev pub refusal_text : Option NumberAndValues → List ℕ
+refusal_text (Some n) = codes "no" ++ spaced n.number ++ flat_map spaced n.values ++ end_line
+refusal_text None = codes "no memory" ++ end_line
 
 abbrev pub text_of_answer : Result Plan PlanFault → List ℕ
 text_of_answer (Ok p) = text_of_plan p
-text_of_answer (Err e) = refusal_text e
+text_of_answer (Err e) = refusal_text (plan_refusal e)

@@ -1,21 +1,17 @@
 // What the register prints. The lines are functions and no impls of `Display`: the values are of types of other crates, and those crates know nothing of what a program prints.
 #![tactic(auto)]
 
-ghost use Rattle.std.specs.Prelude.{◌≡◌, [], ◌∷◌, ◌++◌, length, IfOk, string_bytes, sum_by, OnOk};
-ghost use Rattle.files.specs.Rules.{offender, offence};
+ghost use Rattle.std.specs.Prelude.{◌≡◌, ◌++◌, length, IfOk, string_bytes, sum_by, OnOk};
 ghost use Rattle.files.specs.Views.{path_of, paths_of};
-ghost use Rattle.plans.specs.Opening.{plan_layout};
-ghost use Rattle.report.specs.Texts.{path_text, path_texts, wait_text, wait_texts, counts_text, text_of_plan, numbered_text, refusal_text, text_of_answer, orders_text};
+ghost use Rattle.refusals.specs.Refusals.{refusal};
+ghost use Rattle.report.specs.Texts.{path_text, path_texts, wait_text, wait_texts, counts_text, text_of_plan, refusal_text, text_of_answer, orders_text};
 
-use files::layout::FileFault;
 use files::plan::{Path, Stop};
-use files::rules::PathFault;
-use meetings::clash::Clash;
-use meetings::meet::MeetingFault;
 use meetings::stays::At;
 use orders::waits::{Wait, plan_waits};
 use plans::plan::Plan;
 use plans::plan::opening::PlanFault;
+use refusals::Refusal;
 use std::alloc::{AllocError, Global};
 
 // A path, in a line.
@@ -43,45 +39,20 @@ pub fn wait_line(heap: Global, wait: &Wait) -> Result<String, AllocError>
     )
 }
 
-// A refusal with its number and the values that it gives.
-fn numbered(heap: Global, number: u8, values: &[usize]) -> Result<String, AllocError>
-    ensures { IfOk result (λ t. string_bytes t ≡ numbered_text number values.now) }
+/// A refusal, in a line: its number and its values, or that memory was wanting.
+pub fn refusal_line(alloc: Global, why: Refusal) -> Result<String, AllocError>
+    ensures { IfOk result (λ t. string_bytes t ≡ refusal_text (refusal why)) }
 {
-    let mut text = format!(in heap; "no {number}")?;
-    for value in values {
+    let Some(number) = why.number() else {
+        return String::from_str(alloc, "no memory\n");
+    };
+    let mut text = format!(in alloc; "no {number}")?;
+    let values = why.values();
+    for value in values.as_slice() {
         write!(text, " {value}")?;
     }
     text.push_str("\n")?;
     Ok(text)
-}
-
-// The shuttle and the stop of an offence.
-fn offence_values(fault: PathFault) -> [usize; 2]
-    ensures { result ≡ offender fault ∷ offence fault ∷ [] }
-{
-    match fault {
-        PathFault::Start { shuttle } => [shuttle, 0],
-        PathFault::Tick { shuttle, stop } | PathFault::Place { shuttle, stop } => [shuttle, stop],
-    }
-}
-
-// A refusal, in a line.
-pub fn refusal_line(heap: Global, fault: PlanFault) -> Result<String, AllocError>
-    ensures { IfOk result (λ t. string_bytes t ≡ refusal_text fault) }
-{
-    let Some(number) = fault.number() else {
-        return String::from_str(heap, "no memory\n");
-    };
-    match fault {
-        PlanFault::File(FileFault::Torn(place)) => numbered(heap, number, &[place]),
-        PlanFault::Path(offence) => numbered(heap, number, &offence_values(offence)),
-        PlanFault::Meetings(MeetingFault::Collision(Clash { lower, other })) => numbered(
-            heap,
-            number,
-            &[lower.shuttle, lower.stop, other.shuttle, other.stop],
-        ),
-        _ => numbered(heap, number, &[]),
-    }
 }
 
 // How many stops all paths have together.
@@ -104,7 +75,7 @@ pub fn counts_line(heap: Global, plan: &Plan) -> Result<String, AllocError>
 
 // A line for each path.
 fn add_paths(heap: Global, plan: &Plan, text: &mut String) -> Result<(), AllocError>
-    ensures { OnOk result (string_bytes text.new ≡ string_bytes text.old ++ path_texts 0 (plan_layout plan.now).paths) }
+    ensures { OnOk result (string_bytes text.new ≡ string_bytes text.old ++ path_texts 0 plan.now.paths) }
 {
     for (shuttle, path) in plan.paths().iter().enumerate() {
         let line = path_line(heap, shuttle, path)?;
@@ -135,13 +106,13 @@ fn plan_text(heap: Global, plan: &Plan) -> Result<String, AllocError>
     Ok(text)
 }
 
-// All that the register prints of an answer: the plan, or the refusal alone.
-pub fn answer_text(heap: Global, answer: &Result<Plan, PlanFault>) -> Result<String, AllocError>
+/// All that the register prints of an answer: the plan, or the refusal alone.
+pub fn answer_text(alloc: Global, answer: &Result<Plan, PlanFault>) -> Result<String, AllocError>
     ensures { IfOk result (λ t. string_bytes t ≡ text_of_answer answer.now) }
 {
     match answer {
-        Ok(plan) => plan_text(heap, plan),
-        Err(fault) => refusal_line(heap, *fault),
+        Ok(plan) => plan_text(alloc, plan),
+        Err(fault) => refusal_line(alloc, Refusal::from(*fault)),
     }
 }
 

@@ -1,4 +1,8 @@
-pub mod Expecting
-pub mod Keeping
-pub mod Lawfuls
-pub mod Standing
+pub mod Agreeing
+pub mod Carrying
+pub mod Executing
+pub mod Guarding
+pub mod Listing
+pub mod Opening
+pub mod Sounding
+pub mod Timing

@@ -1,7 +1,12 @@
 pub mod Asks
 pub mod Calls
-pub mod Refusals
-pub mod Safety
+pub mod Executions
+pub mod Guards
+pub mod Lawful
+pub mod Laws
+pub mod Opens
+pub mod Sound
 pub mod State
+pub mod Timing
 pub mod Views
 pub mod Writes

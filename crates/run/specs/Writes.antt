@@ -1,8 +1,8 @@
 -- The order file of a run.
 use Rattle.std.specs.Prelude.{◌≡◌, ℕ, ◌<◌, List, ◌++◌, length, drop, Some, None, Ok, Err, Option, Result}
 use Rattle.orders.specs.Plans.{plan_orders}
-use Rattle.run.specs.declared.refusals.Refusal.{Refusal}
-use Rattle.run.specs.declared.refusals.Refusal.TheVariants.{NoPlan, ShortBuffer}
+use Rattle.refusals.specs.declared.Refusal.{Refusal}
+use Rattle.refusals.specs.declared.Refusal.TheVariants.{NoPlan, ShortBuffer}
 use Rattle.run.specs.State.{State}
 
 -- Bytes are written into the front of a buffer, and what is behind them stays; or the buffer is too short, and stays as it was.

@@ -1,6 +1,5 @@
-// A run of a plan: who stands where, and who goes first at each meeting.
+//! A run of a plan: who stands where, and who goes first at each meeting.
 #![tactic(auto)]
 
-pub mod named;
-pub mod refusals;
+pub mod laws;
 pub mod run;

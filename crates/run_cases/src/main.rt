@@ -11,14 +11,16 @@
 //   O          the numbers of the open meetings
 //   W ORDERS   whether orders are lawful
 //   N S        the number of the next stop of shuttle S
+//   I ORDERS   puts orders in force, if they are lawful
 // Orders have a letter for each meeting: L where the lower shuttle goes first, O where the other does, - where the meeting is left out. They may be too few or too many, or none.
 // A refusal is printed as its number.
 #![tactic(auto)]
 
 use anyhow::anyhow;
-use floor::entry::{SHUTTLES, STOPS};
+use floor::timetable::Timetable;
 use meetings::meet::First;
-use run::refusals::Refusal;
+use meetings::stays::At;
+use refusals::Refusal;
 use run::run::Run;
 use run::run::asks::EntryFault;
 use std::alloc::{AllocError, Global};
@@ -26,11 +28,12 @@ use std::alloc::{AllocError, Global};
 // The number of every run.
 const RUN: u32 = 7;
 
-// A run, and the plan file that it was opened with, which is empty before that. What prints is a function of the runtime and the run, since a method would take the runtime just so.
+// A run, the plan file that it was opened with, which is empty before that, and the timetable in which its entry ticks are worked out. What prints is a function of the runtime and the run, since a method would take the runtime just so.
 #[derive(Drop)]
 struct Case {
     run: Run,
     file: Vec<u8>,
+    timetable: Timetable,
 }
 
 // The letters of orders are this program's own, so they stand here and not at `First`.
@@ -162,57 +165,59 @@ fn print_state(rt: &HostRuntime, run: &Run) -> anyhow::Result<()> {
     Ok(())
 }
 
-// The arrivals of as many shuttles as there are.
-fn print_arrivals(
-    rt: &HostRuntime,
-    letter: &str,
-    run: &Run,
-    arrivals: [u32; SHUTTLES],
-) -> anyhow::Result<()> {
+fn print_arrivals(rt: &HostRuntime, letter: &str, arrivals: &[u32]) -> anyhow::Result<()> {
     print!(rt; "{letter}")?;
-    for arrival in arrivals.iter().take(shuttle_count(run)) {
+    for arrival in arrivals {
         print!(rt; " {arrival}")?;
     }
     println!(rt; "")?;
     Ok(())
 }
 
-fn arrivals(rt: &HostRuntime, run: &Run, letters: &[u8]) -> anyhow::Result<()> {
+fn arrivals(rt: &HostRuntime, case: &mut Case, letters: &[u8]) -> anyhow::Result<()> {
     let orders = read_orders(rt.alloc(), letters)?;
-    match run.arrivals(orders.as_slice()) {
-        Ok(arrivals) => print_arrivals(rt, "A", run, arrivals),
+    match case.run.entry_ticks(orders.as_slice(), &mut case.timetable) {
+        Ok(()) => print_arrivals(rt, "A", case.timetable.arrivals()),
         Err(why) => print_fault(rt, "A", why),
     }
 }
 
-fn expected(rt: &HostRuntime, run: &Run) -> anyhow::Result<()> {
-    match run.expected() {
-        Ok(arrivals) => print_arrivals(rt, "F", run, arrivals),
+fn expected(rt: &HostRuntime, case: &mut Case) -> anyhow::Result<()> {
+    match case.run.expected(&mut case.timetable) {
+        Ok(()) => print_arrivals(rt, "F", case.timetable.arrivals()),
         Err(why) => print_refusal(rt, why),
     }
 }
 
 // The entry ticks of a path of so many stops.
-fn print_path(rt: &HostRuntime, ticks: &[u32; STOPS], stops: usize) -> anyhow::Result<()> {
+fn print_path(
+    rt: &HostRuntime,
+    timetable: &Timetable,
+    shuttle: usize,
+    stops: usize,
+) -> anyhow::Result<()> {
     let mut mark = ' ';
-    for tick in ticks.iter().take(stops) {
-        print!(rt; "{mark}{tick}")?;
+    for stop in 0..stops {
+        print!(rt; "{mark}{}", timetable.tick(At { shuttle, stop }))?;
         mark = ',';
     }
     Ok(())
 }
 
-fn entry_ticks(rt: &HostRuntime, case: &Case, letters: &[u8]) -> anyhow::Result<()> {
+fn print_ticks(rt: &HostRuntime, case: &Case) -> anyhow::Result<()> {
+    print!(rt; "E")?;
+    for shuttle in 0..shuttle_count(&case.run) {
+        let stops = stop_count(case.file.as_slice(), shuttle);
+        print_path(rt, &case.timetable, shuttle, stops)?;
+    }
+    println!(rt; "")?;
+    Ok(())
+}
+
+fn entry_ticks(rt: &HostRuntime, case: &mut Case, letters: &[u8]) -> anyhow::Result<()> {
     let orders = read_orders(rt.alloc(), letters)?;
-    match case.run.entry_ticks(orders.as_slice()) {
-        Ok(ticks) => {
-            print!(rt; "E")?;
-            for (s, path) in ticks.iter().enumerate().take(shuttle_count(&case.run)) {
-                print_path(rt, path, stop_count(case.file.as_slice(), s))?;
-            }
-            println!(rt; "")?;
-            Ok(())
-        }
+    match case.run.entry_ticks(orders.as_slice(), &mut case.timetable) {
+        Ok(()) => print_ticks(rt, case),
         Err(why) => print_fault(rt, "E", why),
     }
 }
@@ -240,6 +245,18 @@ fn lawful(rt: &HostRuntime, run: &Run, letters: &[u8]) -> anyhow::Result<()> {
     Ok(())
 }
 
+fn put_in_force(rt: &HostRuntime, run: &mut Run, letters: &[u8]) -> anyhow::Result<()> {
+    if !has_plan(run) {
+        return print_refusal(rt, Refusal::NoPlan);
+    }
+    let firsts = read_firsts(rt.alloc(), letters)?;
+    match run.put_in_force(firsts.as_slice()) {
+        Ok(()) => println!(rt; "I")?,
+        Err(_) => println!(rt; "I no")?,
+    }
+    Ok(())
+}
+
 fn next_stop(rt: &HostRuntime, run: &Run, rest: &str) -> anyhow::Result<()> {
     match run.next_stop(rest.parse::<usize>()?) {
         Some(at) => println!(rt; "N {}", at.stop)?,
@@ -254,12 +271,13 @@ fn on_run(rt: &HostRuntime, case: &mut Case, letter: &str, rest: &str) -> anyhow
         "H" => hold(rt, &mut case.run, rest),
         "T" => tick(rt, &mut case.run, rest),
         "S" => print_state(rt, &case.run),
-        "A" => arrivals(rt, &case.run, rest.as_bytes()),
+        "A" => arrivals(rt, case, rest.as_bytes()),
         "E" => entry_ticks(rt, case, rest.as_bytes()),
-        "F" => expected(rt, &case.run),
+        "F" => expected(rt, case),
         "O" => open_meetings(rt, &case.run),
         "W" => lawful(rt, &case.run, rest.as_bytes()),
         "N" => next_stop(rt, &case.run, rest),
+        "I" => put_in_force(rt, &mut case.run, rest.as_bytes()),
         _ => Err(anyhow!("no such case")),
     }
 }
@@ -285,6 +303,7 @@ fn work(rt: &HostRuntime) -> anyhow::Result<()> {
     let mut case = Case {
         run: Run::new(),
         file: Vec::new(heap),
+        timetable: Timetable::new(),
     };
     for line in rt.lines(heap) {
         let line = line?;

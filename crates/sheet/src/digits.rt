@@ -1,5 +1,6 @@
 // Decimal digits, written into a buffer.
 ghost use Rattle.std.specs.Prelude.{◌≡◌, ◌≤◌, length};
+ghost use Rattle.lines.specs.declared.numbers.TheConstants.{MOST_DIGITS};
 ghost use Rattle.run.specs.Writes.{Fits};
 ghost use Rattle.sheet.specs.Digits.{digits};
 
@@ -16,7 +17,7 @@ pub(crate) fn put_number(out: &mut [u8], n: u32) -> usize
 // How many digits a number has.
 pub(crate) fn digit_count(n: u32) -> usize
     ensures count { result ≡ length (digits n) }
-    ensures few { result ≤ 10 }
+    ensures few { result ≤ MOST_DIGITS }
 {
     n.checked_ilog10().unwrap_or(0) as usize + 1
 }

@@ -1,30 +1,36 @@
 // The sheet of arrivals: tick and shuttle of each, by tick, then by shuttle.
 #![tactic(auto)]
 
-ghost use Rattle.std.specs.Prelude.{IsTrue};
-ghost use Rattle.sheet.specs.Laws.{DigitsReadBack, NoZeroLeads, DuesOrder};
+ghost use Rattle.sheet.specs.Laws.{DigitsReadBack, NoZeroLeads, DuesOrder, ArrivalsTellNextStops, SheetsFit, SheetsAreAscii};
 
 mod digits;
 pub mod due;
 pub mod sheet;
 
 use crate::due::Due;
+use heap::rows_stand;
+use lines::decimals_stand;
 
-// The digits of a number read back, and no 0 leads.
-pub fn digits_stand() -> bool
+/// The digits of a number read back, and no 0 leads.
+pub fn digits_stand()
     ensures back { DigitsReadBack }
     ensures lead { NoZeroLeads }
-    ensures answer { IsTrue result }
 {
-    true
+    decimals_stand();
 }
 
-// The order of arrivals is by tick, then by shuttle.
-pub fn dues_stand() -> bool
+/// The order of arrivals is by tick, then by shuttle.
+pub fn dues_stand()
     ensures order { DuesOrder ⟦<Due as Ord>⟧.cmp }
-    ensures answer { IsTrue result }
+{}
+
+/// A sheet has a line for just the shuttles that have a next stop, there is room for any, and its bytes are a text.
+pub fn sheets_stand()
+    ensures next { ArrivalsTellNextStops }
+    ensures fit { SheetsFit }
+    ensures ascii { SheetsAreAscii }
 {
-    true
+    rows_stand::<Due>();
 }
 
 #[cfg(test)]

@@ -1,6 +1,6 @@
 // A fresh sheet in an exact buffer and in one that is a byte short, worked out by hand.
 use crate::sheet::write_sheet;
-use run::refusals::Refusal;
+use refusals::Refusal;
 use run::run::Run;
 use std::test::Fail;
 

@@ -7,7 +7,7 @@ use Rattle.meetings.specs.declared.meet.First.{First}
 use Rattle.meetings.specs.declared.meet.First.TheVariants.{Lower, Other}
 use Rattle.meetings.specs.declared.meet.Meeting.{Meeting}
 use Rattle.meetings.specs.declared.stays.At.{At}
-use Rattle.traffic.specs.Index.{has_part, meeting_at, order_at, meetings_at, awaited_in}
+use Rattle.traffic.specs.Index.{has_part, meeting_at, order_at, meetings_at, awaited_in, WaitsAreIndexed}
 use Rattle.traffic.specs.Plans.{is_same_stop, awaited_at, awaits}
 
 -- a stop waits for nothing at a meeting in which it takes no part
@@ -46,10 +46,10 @@ all_counted [] orders a = refl
 all_counted (m ∷ ms) [] a = sym (none (m ∷ ms) a (range_with_len 0 (length (m ∷ ms))))
 all_counted (m ∷ ms) (o ∷ orders) a = ap (λ l. awaited_at a m o ++ l) (all_counted ms orders a ∙ sym (shift m ms o orders a 0 1 (length ms) refl))
 
-pub awaits_indexed : (ms : List Meeting) (orders : List (Option First)) (a : At) → awaits ms orders a ≡ awaited_in ms orders a (meetings_at ms a)
+awaits_indexed : (ms : List Meeting) (orders : List (Option First)) (a : At) → awaits ms orders a ≡ awaited_in ms orders a (meetings_at ms a)
 awaits_indexed ms orders a = all_counted ms orders a ∙ kept_enough ms orders a (range_with_len 0 (length ms))
 
-pub awaited_in_append :
+awaited_in_append :
     (ms : List Meeting) (orders : List (Option First)) (a : At) (js ks : List ℕ) → awaited_in ms orders a (js ++ ks) ≡ awaited_in ms orders a js ++ awaited_in ms orders a ks
 awaited_in_append ms orders a [] ks = refl
 awaited_in_append ms orders a (j ∷ js) ks =
@@ -60,5 +60,8 @@ counted_below : (k n m : ℕ) → k + n ≤ m → AllByRecursion (λ j. j < m) (
 counted_below k zero m h = tt
 counted_below k (suc n) m h = (omega arith, counted_below (k + 1) n m (omega arith))
 
-pub kept_below : (ms : List Meeting) (a : At) → AllByRecursion (λ j. j < length ms) (meetings_at ms a)
+kept_below : (ms : List Meeting) (a : At) → AllByRecursion (λ j. j < length ms) (meetings_at ms a)
 kept_below ms a = all_kept_by (λ j. has_part a (meeting_at ms j)) (λ j. j < length ms) (range_with_len 0 (length ms)) (counted_below 0 (length ms) (length ms) (omega arith))
+
+pub waits_are_indexed : WaitsAreIndexed
+waits_are_indexed ms orders a = record { found = awaits_indexed ms orders a; below = kept_below ms a; joined = awaited_in_append ms orders a }

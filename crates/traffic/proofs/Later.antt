@@ -4,7 +4,7 @@ use native.Mathlib.Decide.{dec_le}
 use Rattle.std.specs.List.{ContainsAt, AllByRecursion}
 use Rattle.std.proofs.ByRecursion.{All-weaker, all-has}
 use Rattle.meetings.specs.declared.stays.At.{At}
-use Rattle.meetings.proofs.Counts.{all_both}
+use Rattle.traffic.proofs.Lists.{all_both}
 use Rattle.traffic.specs.Laws.{with_waits, Among, MoreIsLater, SatisfiedIsSame}
 use Rattle.traffic.specs.Scene.{Scene, at, Numbers, number, greatest, own, rule, EntryTicks, OnPaths}
 use Rattle.traffic.proofs.Ranking.{below_greatest}

@@ -1,9 +1,12 @@
-pub mod Agree
 pub mod Indexed
 pub mod Later
+pub mod Lists
 pub mod Planned
 pub mod Progress
 pub mod Ranking
+pub mod Rounds
 pub mod Safe
 pub mod Step
 pub mod Sweep
+pub mod Waiting
+pub mod Worked

@@ -5,10 +5,10 @@ use Rattle.std.proofs.ByRecursion.{all-has}
 use Rattle.std.proofs.lemmas.List.Sums.{sum_by_push}
 use Rattle.std.proofs.lemmas.Bool.{and_cases, leb-false, cases_Bool, cases_lt, both_ways}
 use Rattle.meetings.specs.declared.stays.At.{At}
-use Rattle.meetings.proofs.Counts.{counting_more}
+use Rattle.traffic.proofs.Lists.{counting_more}
 use Rattle.traffic.specs.Safety.{TicksNeverRaise, TicksMakeFall}
 use Rattle.traffic.specs.Scene.{Scene, at, every, done, moves, tick, nobody, Numbers, number, greatest, rule, EntryTicks, OnPaths}
-use Rattle.traffic.proofs.Ranking.{moved, moves_from, below_greatest}
+use Rattle.traffic.proofs.Ranking.{every_done, moved, moves_from, below_greatest}
 
 sum_more : (f : ℕ → ℕ) (n : ℕ) → sum_by f (range_with_len 0 (suc n)) ≡ sum_by f (range_with_len 0 n) + f n
 sum_more f n = ap (λ k. sum_by f (range_with_len 0 k)) (sym (add-one n)) ∙ ap (sum_by f) (counting_more n) ∙ sum_by_push f (range_with_len 0 n) n
@@ -69,7 +69,7 @@ module _ (c : Scene) (n : ℕ) (on : OnPaths c) (e : Numbers) (ee : EntryTicks c
       (λ (held : 0 < c.hold s). (s, sn, held_falls s held))
       (λ (free : c.hold s ≤ 0).
       ⊎_elim
-      (λ (ready : every (done c) (c.waits (at s (suc (c.entered s)))) ≡ true). (s, sn, moved_falls s (moves_from c nobody s (record { free = refl; hold = omega arith; short = short; ready = ready }))))
+      (λ (ready : every (done c) (c.waits (at s (suc (c.entered s)))) ≡ true). (s, sn, moved_falls s (moves_from c nobody s (record { free = refl; hold = omega arith; short = short; ready = every_done c _ ready }))))
       (λ (waits : every (done c) (c.waits (at s (suc (c.entered s)))) ≡ false).
       let a = at s (suc (c.entered s)) in
       let r : e s (suc (c.entered s)) ≡ rule c e s (c.entered s) = ee.ahead s (c.entered s) (omega arith) short in

@@ -3,22 +3,33 @@ use Rattle.std.proofs.Common.{◌≡◌, ℕ, zero, suc, ◌+◌, ◌<◌, ◌�
 use native.Mathlib.Decide.{dec_le}
 use Rattle.std.specs.List.{ContainsAt, AllByRecursion}
 use Rattle.std.proofs.ByRecursion.{All-weaker, all-has}
-use Rattle.std.proofs.lemmas.Bool.{le-leb, lt-leb, lt-ltb, ltb-true, eqb-true, eq-eqb, and_parts, and_from, not-true, not_from_false, cond-true, cond-false}
+use Rattle.std.proofs.lemmas.Bool.{le-leb, lt-leb, lt-ltb, ltb-true, leb-true, eqb-true, eq-eqb, and_parts, and_from, not-true, not_from_false, cond-true, cond-false}
 use Rattle.meetings.specs.declared.stays.At.{At}
-use Rattle.meetings.proofs.Counts.{all_both}
-use Rattle.traffic.specs.Laws.{with_holds, with_waits, RankedExactly, HoldsMakeNoRing, TicksMakeNoRing, FewerMakeNoRing}
+use Rattle.traffic.proofs.Lists.{all_both}
+use Rattle.traffic.specs.Laws.{with_holds, with_waits, EntryTicksRise, RankedExactly, HoldsMakeNoRing, TicksMakeNoRing, FewerMakeNoRing}
+use Rattle.traffic.specs.Safety.{CanMove, MovesExactly}
 use Rattle.traffic.specs.Scene.{Scene, at, every, done, moves, tick, Numbers, number, greatest, rule, EntryTicks, Ranks, OnPaths}
 
 pub below_greatest : (e : Numbers) (l : List At) → AllByRecursion (λ a. number e a ≤ greatest (map (number e) l)) l
 below_greatest e [] = tt
 below_greatest e (a ∷ l) = (omega arith, All-weaker _ _ (λ b h. omega arith) l (below_greatest e l))
 
--- entry ticks are a ranking
-ticks_rank : (c : Scene) (e : Numbers) → EntryTicks c e → Ranks c e
-ticks_rank c e ee = record {
+-- numbers that are the same of all stops in a list
+pub list_same : (e f : Numbers) (l : List At) → AllByRecursion (λ a. number e a ≡ number f a) l → map (number e) l ≡ map (number f) l
+list_same e f [] h = refl
+list_same e f (a ∷ l) h = ap₂ (λ x (xs : List ℕ). x ∷ xs) h.0 (list_same e f l h.1)
+
+pub entry_ticks_rise : EntryTicksRise
+entry_ticks_rise c e ee = record {
   along = λ s i p q. let r : e s (suc i) ≡ rule c e s i = ee.ahead s i p q in omega arith;
-  across = λ s i p q. let r : e s (suc i) ≡ rule c e s i = ee.ahead s i p q in All-weaker _ _ (λ a h _. omega arith) (c.waits (at s (suc i))) (below_greatest e (c.waits (at s (suc i))));
+  across = λ s i p q. let r : e s (suc i) ≡ rule c e s i = ee.ahead s i p q in All-weaker _ _ (λ a h. omega arith) (c.waits (at s (suc i))) (below_greatest e (c.waits (at s (suc i))));
 }
+
+-- so they are a ranking
+ticks_rank : (c : Scene) (e : Numbers) → EntryTicks c e → Ranks c e
+ticks_rank c e ee =
+    let rise = entry_ticks_rise c e ee in
+    record { along = rise.along; across = λ s i p q. All-weaker _ _ (λ a h _. h) (c.waits (at s (suc i))) (rise.across s i p q) }
 
 -- entry ticks worked out to a depth
 abbrev by : Scene → ℕ → Numbers
@@ -34,10 +45,6 @@ module _ (c : Scene) (ρ : Numbers) (on : OnPaths c) (ranks : Ranks c ρ) where
 
   by_ahead : (n s i : ℕ) → c.entered s ≤ i → by c (suc n) s (suc i) ≡ rule c (by c n) s i
   by_ahead n s i p = cond-false _ _ _ (lt-leb (suc i) (c.entered s) (omega arith))
-
-  list_same : (e f : Numbers) (l : List At) → AllByRecursion (λ a. number e a ≡ number f a) l → map (number e) l ≡ map (number f) l
-  list_same e f [] h = refl
-  list_same e f (a ∷ l) h = ap₂ (λ x (xs : List ℕ). x ∷ xs) h.0 (list_same e f l h.1)
 
   -- the rule gives the same where all that it looks at is the same
   rule-same :
@@ -84,24 +91,28 @@ fewer_make_no_ring c fewer on among r =
       across = λ s i p q. All-weaker (ContainsAt (c.waits (at s (suc i)))) _ (λ b h. all-has (Less (r.0 s (suc i))) (c.waits (at s (suc i))) b (k.across s i p q) h) (fewer (at s (suc i))) (among (at s (suc i)));
     })
 
--- what a move shows
-pub record Moved (c : Scene) (stands : ℕ → Bool) (s : ℕ) : Type 0 where
-  pub free : stands s ≡ false
-  pub hold : c.hold s ≡ 0
-  pub short : c.entered s < c.last s
-  pub ready : every (done c) (c.waits (at s (suc (c.entered s)))) ≡ true
+pub every_done : (c : Scene) (l : List At) → every (done c) l ≡ true → AllByRecursion (λ b. b.stop ≤ c.entered b.shuttle) l
+every_done c [] h = tt
+every_done c (b ∷ l) h = let p = and_parts (done c b) (every (done c) l) h in (leb-true _ _ p.0, every_done c l p.1)
 
-pub moved : (c : Scene) (stands : ℕ → Bool) (s : ℕ) → moves c stands s ≡ true → Moved c stands s
+done_every : (c : Scene) (l : List At) → AllByRecursion (λ b. b.stop ≤ c.entered b.shuttle) l → every (done c) l ≡ true
+done_every c [] h = refl
+done_every c (b ∷ l) h = and_from _ _ (le-leb _ _ h.0) (done_every c l h.1)
+
+pub moved : (c : Scene) (stands : ℕ → Bool) (s : ℕ) → moves c stands s ≡ true → CanMove c stands s
 moved c stands s m =
     let ready = every (done c) (c.waits (at s (suc (c.entered s)))) in
     let short = ltb (c.entered s) (c.last s) in
     let a = and_parts (not (stands s)) (eqb (c.hold s) 0 && (short && ready)) m in
     let b = and_parts (eqb (c.hold s) 0) (short && ready) a.1 in
     let d = and_parts short ready b.1 in
-    record { free = not-true _ a.0; hold = eqb-true _ _ b.0; short = ltb-true _ _ d.0; ready = d.1 }
+    record { free = not-true _ a.0; hold = eqb-true _ _ b.0; short = ltb-true _ _ d.0; ready = every_done c (c.waits (at s (suc (c.entered s)))) d.1 }
 
-pub moves_from : (c : Scene) (stands : ℕ → Bool) (s : ℕ) → Moved c stands s → moves c stands s ≡ true
-moves_from c stands s m = and_from _ _ (not_from_false _ m.free) (and_from _ _ (eq-eqb _ _ m.hold) (and_from _ _ (lt-ltb _ _ m.short) m.ready))
+pub moves_from : (c : Scene) (stands : ℕ → Bool) (s : ℕ) → CanMove c stands s → moves c stands s ≡ true
+moves_from c stands s m = and_from _ _ (not_from_false _ m.free) (and_from _ _ (eq-eqb _ _ m.hold) (and_from _ _ (lt-ltb _ _ m.short) (done_every c _ m.ready)))
+
+pub moves_exactly : MovesExactly
+moves_exactly c stands s = (moved c stands s, moves_from c stands s)
 
 pub tick_within : (c : Scene) (stands : ℕ → Bool) → OnPaths c → OnPaths (tick c stands)
 tick_within c stands on = record { within = λ s. go s (moves c stands s) refl; awaited = on.awaited }

@@ -1,17 +1,11 @@
 -- Safety of one step.
-use Rattle.std.proofs.Common.{◌≡◌, ℕ, suc, ◌+◌, ◌≤◌, Bool, true, false, cond, List, [], ◌∷◌, refl, subst, ⊎_elim, arith}
+use Rattle.std.proofs.Common.{◌≡◌, ℕ, suc, ◌+◌, ◌≤◌, Bool, true, false, cond, refl, subst, ⊎_elim, arith}
 use native.Mathlib.Decide.{dec_le}
 use Rattle.std.specs.List.{ContainsAt, AllByRecursion}
 use Rattle.std.proofs.ByRecursion.{All-weaker, all-has}
-use Rattle.std.proofs.lemmas.Bool.{and_parts, leb-true}
-use Rattle.meetings.specs.declared.stays.At.{At}
 use Rattle.traffic.specs.Safety.{TicksKeepWaits, ChangesKeepWaits, NoTwoInOnePlace, NoneFollows}
-use Rattle.traffic.specs.Scene.{Scene, at, every, done, moves}
+use Rattle.traffic.specs.Scene.{at, moves}
 use Rattle.traffic.proofs.Ranking.{moved}
-
-every-done : (c : Scene) (l : List At) → every (done c) l ≡ true → AllByRecursion (λ b. b.stop ≤ c.entered b.shuttle) l
-every-done c [] h = tt
-every-done c (b ∷ l) h = let p = and_parts (done c b) (every (done c) l) h in (leb-true _ _ p.0, every-done c l p.1)
 
 pub ticks_keep_waits : TicksKeepWaits
 ticks_keep_waits c before stands w = record { onward = λ s. omega arith; kept = λ s i p. go s i (moves c stands s) refl p }
@@ -23,7 +17,7 @@ ticks_keep_waits c before stands w = record { onward = λ s. omega arith; kept =
     go s i true m p =
         elim (dec_le i (c.entered s)) [
           | yes q ↦ old s i q
-          | no q ↦ (let e : suc (c.entered s) ≡ i = omega arith in subst (λ k. AllByRecursion (λ b. b.stop ≤ c.entered b.shuttle) (c.waits (at s k))) e (every-done c _ (moved c stands s m).ready))
+          | no q ↦ (let e : suc (c.entered s) ≡ i = omega arith in subst (λ k. AllByRecursion (λ b. b.stop ≤ c.entered b.shuttle) (c.waits (at s k))) e (moved c stands s m).ready)
         ]
     go s i false m p = old s i (omega arith)
 

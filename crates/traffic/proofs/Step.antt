@@ -2,11 +2,11 @@
 use Rattle.std.proofs.Common.{◌≡◌, ℕ, zero, suc, ◌+◌, ◌-◌, ◌<◌, ◌≤◌, Bool, true, false, cond, eqb, List, [], ◌∷◌, map, sym, refl, ◌∙◌, subst, arith}
 use native.Mathlib.Decide.{dec_le}
 use Rattle.std.specs.List.{AllByRecursion}
-use Rattle.std.proofs.lemmas.Bool.{le-leb, leb-true, and_parts, and_from, both_ways}
+use Rattle.std.proofs.lemmas.Bool.{both_ways}
 use Rattle.std.proofs.lemmas.Bool.Decides.{nat_tests}
 use Rattle.meetings.specs.declared.stays.At.{At}
 use Rattle.traffic.specs.Laws.{TicksAreEntryTicks}
-use Rattle.traffic.specs.Scene.{Scene, at, every, done, moves, tick, nobody, Numbers, number, greatest, own, rule, EntryTicks, OnPaths}
+use Rattle.traffic.specs.Scene.{Scene, at, moves, tick, nobody, Numbers, number, greatest, own, rule, EntryTicks, OnPaths}
 use Rattle.traffic.proofs.Ranking.{moved, moves_from, tick_within}
 
 -- every number one less, down to 0
@@ -23,17 +23,15 @@ module _ (c : Scene) (e : Numbers) (on : OnPaths c) (ee : EntryTicks c e) where
   zero_done s zero b z = omega arith
   zero_done s (suc i) b z = elim (dec_le (suc i) (c.entered s)) [ yes p ↦ p | no q ↦ (let r : e s (suc i) ≡ rule c e s i = ee.ahead s i (omega arith) (omega arith) in absurd (omega arith)) ]
 
-  all_done : (l : List At) → AllByRecursion (λ a. a.stop ≤ c.last a.shuttle) l → greatest (map (number e) l) ≡ 0 → every (done c) l ≡ true
-  all_done [] w z = refl
-  all_done (a ∷ l) w z =
-      and_from _ _ (le-leb _ _ (zero_done a.shuttle a.stop w.0 (omega arith))) (all_done l w.1 (omega arith))
+  all_done : (l : List At) → AllByRecursion (λ a. a.stop ≤ c.last a.shuttle) l → greatest (map (number e) l) ≡ 0 → AllByRecursion (λ a. a.stop ≤ c.entered a.shuttle) l
+  all_done [] w z = tt
+  all_done (a ∷ l) w z = (zero_done a.shuttle a.stop w.0 (omega arith), all_done l w.1 (omega arith))
 
-  done_all : (l : List At) → every (done c) l ≡ true → greatest (map (number e) l) ≡ 0
+  done_all : (l : List At) → AllByRecursion (λ a. a.stop ≤ c.entered a.shuttle) l → greatest (map (number e) l) ≡ 0
   done_all [] h = refl
   done_all (a ∷ l) h =
-      let p = and_parts (done c a) (every (done c) l) h in
-      let x : e a.shuttle a.stop ≡ 0 = ee.past a.shuttle a.stop (leb-true _ _ p.0) in
-      let y = done_all l p.1 in
+      let x : e a.shuttle a.stop ≡ 0 = ee.past a.shuttle a.stop h.0 in
+      let y = done_all l h.1 in
       omega arith
 
   -- a shuttle moves exactly when the entry tick of its next stop is 1

@@ -3,6 +3,7 @@ use Rattle.std.specs.Prelude.{◌≡◌, ℕ, suc, ◌<◌, ◌≤◌, Bool, Lis
 use Rattle.std.specs.List.{ContainsAt, AllByRecursion}
 use Rattle.meetings.specs.declared.stays.At.{At}
 use Rattle.traffic.specs.Scene.{Scene, at, tick, ticks, Numbers, number, EntryTicks, NoRing, Ranks, OnPaths}
+use Rattle.traffic.specs.Sweep.{Timed}
 
 -- the same shuttles with other holds, and with other waits
 abbrev pub with_holds : Scene → (ℕ → ℕ) → Scene
@@ -15,9 +16,21 @@ with_waits c waits = record { entered = c.entered; last = c.last; hold = c.hold;
 abbrev pub Among : (At → List At) → (At → List At) → Type 0
 Among fewer more = (a : At) → AllByRecursion (ContainsAt (more a)) (fewer a)
 
--- Entry ticks are unique.
+-- Where every stop waited for exists, entry ticks are unique;
 abbrev pub EntryTicksAgree : Type 0
-EntryTicksAgree = (c : Scene) (e f : Numbers) → OnPaths c → EntryTicks c e → EntryTicks c f → (s i : ℕ) → i ≤ c.last s → e s i ≡ f s i
+EntryTicksAgree = (c : Scene) (e f : Numbers) → Timed c e → Timed c f → (s i : ℕ) → i ≤ c.last s → e s i ≡ f s i
+
+-- so it is in a scene on paths.
+abbrev pub OnPathsAreTimed : Type 0
+OnPathsAreTimed = (c : Scene) (e : Numbers) → OnPaths c → EntryTicks c e → Timed c e
+
+-- Entry ticks rise along paths, and from each stop that is waited for.
+pub record Rise (c : Scene) (e : Numbers) : Type 0 where
+  pub along : (s i : ℕ) → c.entered s ≤ i → i < c.last s → e s i < e s (suc i)
+  pub across : (s i : ℕ) → c.entered s ≤ i → i < c.last s → AllByRecursion (λ a. number e a < e s (suc i)) (c.waits (at s (suc i)))
+
+abbrev pub EntryTicksRise : Type 0
+EntryTicksRise = (c : Scene) (e : Numbers) → EntryTicks c e → Rise c e
 
 -- They exist exactly when some ranking rises strictly along paths and waits.
 abbrev pub RankedExactly : Type 0

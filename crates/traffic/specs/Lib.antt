@@ -3,4 +3,8 @@ pub mod Laws
 pub mod Plans
 pub mod Safety
 pub mod Scene
+pub mod Stands
 pub mod Sweep
+pub mod Tables
+pub mod Ticks
+pub mod Worked

@@ -10,8 +10,9 @@ use Rattle.meetings.specs.Laws.{stop_of}
 use Rattle.meetings.specs.Meetings.{meetings}
 use Rattle.orders.specs.declared.waits.Wait.{Wait}
 use Rattle.orders.specs.Waits.{wait_under, firsts_of}
-use Rattle.traffic.specs.Safety.{Settled}
+use Rattle.traffic.specs.Safety.{Waited, Settled}
 use Rattle.traffic.specs.Scene.{Scene, Numbers, NoRing, Ranks, OnPaths}
+use Rattle.traffic.specs.Ticks.{IsWithin}
 
 abbrev pub is_same_stop : At → At → Bool
 is_same_stop a b = a.shuttle == b.shuttle && a.stop == b.stop
@@ -45,11 +46,12 @@ fresh_scene ps = scene_of ps (named (firsts_of (meetings ps))) (λ s. 0) (λ s. 
 abbrev pub planned_ticks : List (List Stop) → Numbers
 planned_ticks ps s i = (stop_at (path_at ps s) i).tick
 
--- Planned ticks rank the plan's own orders, so a fresh run has no ring.
+-- Planned ticks rank the plan's own orders, so a fresh run has no ring; and no first stop waits for anything.
 pub record FreshLaw (ps : List (List Stop)) : Type 0 where
   pub on_paths : OnPaths (fresh_scene ps)
   pub ranks : Ranks (fresh_scene ps) (planned_ticks ps)
   pub no_ring : NoRing (fresh_scene ps)
+  pub waited : Waited (fresh_scene ps) (λ s. 0)
 
 abbrev pub FreshRunsHaveNoRing : Type 0
 FreshRunsHaveNoRing = (ps : List (List Stop)) → PathsKeep ps → NoCollision ps → FreshLaw ps
@@ -59,3 +61,9 @@ abbrev pub FullOrdersSettle : Type 0
 FullOrdersSettle =
     (ps : List (List Stop)) (fs : List First) (entered hold : ℕ → ℕ) → length fs ≡ length (meetings ps)
     → ((s : ℕ) → s < length ps → 1 ≤ length (path_at ps s)) → Settled (scene_of ps (named fs) entered hold) (length ps) (λ a. (stop_of ps a).place)
+
+-- The shuttles of a plan are all.
+abbrev pub PlansAreWithin : Type 0
+PlansAreWithin =
+    (ps : List (List Stop)) (orders : List (Option First)) (entered hold : ℕ → ℕ) → ((s : ℕ) → entered s ≤ length (path_at ps s) - 1)
+    → IsWithin (length ps) (scene_of ps orders entered hold)

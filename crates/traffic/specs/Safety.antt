@@ -1,9 +1,20 @@
 -- The laws of safety and progress.
-use Rattle.std.specs.Prelude.{◌≡◌, ℕ, suc, ◌+◌, ◌-◌, ◌<◌, ◌≤◌, Bool, ◌⊎◌, List, sum_by, ◌≢◌}
+use Rattle.std.specs.Prelude.{◌≡◌, ℕ, suc, ◌+◌, ◌-◌, ◌<◌, ◌≤◌, Bool, true, false, ◌⊎◌, List, sum_by, ◌≢◌}
 use Rattle.std.specs.List.{range_with_len, ContainsAt, AllByRecursion}
 use Rattle.meetings.specs.declared.stays.At.{At}
 use Rattle.traffic.specs.Laws.{with_waits}
-use Rattle.traffic.specs.Scene.{Scene, at, tick, nobody, NoRing, OnPaths}
+use Rattle.traffic.specs.Scene.{Scene, at, moves, tick, nobody, NoRing, OnPaths}
+
+-- a shuttle that is not named as standing, has no hold and a next stop, and all that this stop waits for was entered
+pub record CanMove (c : Scene) (stands : ℕ → Bool) (s : ℕ) : Type 0 where
+  pub free : stands s ≡ false
+  pub hold : c.hold s ≡ 0
+  pub short : c.entered s < c.last s
+  pub ready : AllByRecursion (λ b. b.stop ≤ c.entered b.shuttle) (c.waits (at s (suc (c.entered s))))
+
+-- Just such shuttles move.
+abbrev pub MovesExactly : Type 0
+MovesExactly = (c : Scene) (stands : ℕ → Bool) (s : ℕ) → (moves c stands s ≡ true → CanMove c stands s) × (CanMove c stands s → moves c stands s ≡ true)
 
 -- Every stop that was entered waited until all that it waits for had been entered before the last tick. `before` has the stops as they were then.
 pub record Waited (c : Scene) (before : ℕ → ℕ) : Type 0 where

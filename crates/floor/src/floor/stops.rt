@@ -1,17 +1,17 @@
 // What the plan, the index and the records of a floor say of its shuttles and stops.
-ghost use Rattle.std.specs.Prelude.{◌≡◌, suc, ◌<◌, ◌≤◌, length, IfSome};
-ghost use Rattle.std.specs.List.{AllByRecursion};
+ghost use Rattle.std.specs.Prelude.{◌≡◌, ℕ, ◌<◌, ◌≤◌, length};
+ghost use Rattle.std.specs.Int.{bit_at};
 ghost use Rattle.files.specs.Rules.{path_at};
 ghost use Rattle.meetings.specs.Laws.{StopOf};
-ghost use Rattle.traffic.specs.Index.{meetings_at};
-ghost use Rattle.traffic.specs.Scene.{at, done};
-ghost use Rattle.floor.specs.Floors.{entered_in, meetings_in, paths_in, records_in};
-ghost use Rattle.floor.specs.Next.{next_on};
-ghost use Rattle.floor.specs.Shuttles.{shuttle_at, Entered};
+ghost use Rattle.traffic.specs.Scene.{at};
+ghost use Rattle.floor.specs.Indexes.{IsPathOf};
+ghost use Rattle.floor.specs.Positions.{IsSound, entered_in, meetings_in, paths_in};
+ghost use Rattle.floor.specs.Shuttles.{shuttle_at};
 
 use super::Floor;
-use crate::entry::SHUTTLES;
+use crate::index::PathTouches;
 use crate::table::Shuttle;
+use files::plan::{MOST_SHUTTLES, MOST_STOPS};
 use meetings::stays::At;
 
 // That a stop or a shuttle is the floor's is required where it is asked for: a type that holds the floor beside the numbers would say no more, and each caller would make one.
@@ -19,9 +19,18 @@ impl Floor {
     // How many shuttles there are.
     pub(crate) fn count(&self) -> usize
         ensures all { result ≡ length (paths_in self.now) }
-        ensures few { result ≤ 32 }
+        ensures few { result ≤ MOST_SHUTTLES }
+        ensures sound { IsSound self.now }
     {
         self.plan.paths().len()
+    }
+
+    // The word that names every shuttle.
+    pub(crate) fn everyone(&self) -> u32
+        ensures { (s : ℕ) → s < length (paths_in self.now) → bit_at result s ≡ 1 }
+    {
+        // A cast: of 32 shuttles the word is the greatest of its type, and no shift in that type gives it.
+        ((1u64 << self.count()) - 1) as u32
     }
 
     // How many stops the path of a shuttle has.
@@ -29,7 +38,7 @@ impl Floor {
         requires { shuttle < length (paths_in self.now) }
         ensures all { result ≡ length (path_at (paths_in self.now) shuttle) }
         ensures some { 1 ≤ result }
-        ensures few { result ≤ 64 }
+        ensures few { result ≤ MOST_STOPS }
     {
         self.plan.paths()[shuttle].stops.len()
     }
@@ -37,8 +46,9 @@ impl Floor {
     // The record of a shuttle of the plan.
     pub(crate) fn state(&self, shuttle: usize) -> Shuttle
         requires { shuttle < length (paths_in self.now) }
-        ensures record { result ≡ shuttle_at (records_in self.now) shuttle }
+        ensures record { result ≡ shuttle_at self.now.shuttles shuttle }
         ensures stop { StopOf (paths_in self.now) (at shuttle result.stop) }
+        ensures sound { IsSound self.now }
     {
         self.shuttles.at(shuttle)
     }
@@ -51,32 +61,12 @@ impl Floor {
         at.stop <= self.state(at.shuttle).stop
     }
 
-    // How many stops each shuttle has entered: 1, if there is no such shuttle.
-    pub(crate) fn entered(&self) -> [usize; SHUTTLES]
-        ensures { Entered (records_in self.now) result }
+    // The touches of a path's stops.
+    pub(crate) fn path(&self, shuttle: usize) -> PathTouches<'_>
+        requires { shuttle < length (paths_in self.now) }
+        ensures path { IsPathOf (meetings_in self.now) shuttle (length (path_at (paths_in self.now) shuttle)) result }
+        ensures sound { IsSound self.now }
     {
-        self.shuttles.entered()
-    }
-
-    // The stop after a stop, if its path goes on.
-    pub(crate) fn after(&self, at: At) -> Option<At>
-        requires { StopOf (paths_in self.now) at }
-        ensures next { result ≡ next_on (paths_in self.now) at }
-        ensures stop { IfSome result (λ next. StopOf (paths_in self.now) next) }
-    {
-        let stop = at.stop + 1;
-        (stop < self.stop_count(at.shuttle)).then_some(At {
-            shuttle: at.shuttle,
-            stop,
-        })
-    }
-
-    // The numbers of a stop's meetings.
-    pub(crate) fn meetings_of(&self, at: At) -> &[usize]
-        requires { StopOf (paths_in self.now) at }
-        ensures numbers { result.now ≡ meetings_at (meetings_in self.now) at }
-        ensures within { AllByRecursion (λ j. j < length (meetings_in self.now)) result.now }
-    {
-        self.index.at(at)
+        self.index.path(shuttle)
     }
 }

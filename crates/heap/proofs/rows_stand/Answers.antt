@@ -1,4 +1,3 @@
-use Rattle.std.proofs.Common.{refl}
 use Rattle.heap.proofs.Orders.{order_of}
 use Rattle.heap.proofs.Rows.{itself, sort_ascends, sort_keeps, row_unique, insert_ascends, insert_adds, insert-at-place, place_divides}
 use Rattle.heap.proofs.rows_stand.Goals as goal
@@ -14,5 +13,4 @@ returns g c = record {
   one = insert_adds;
   place = insert-at-place;
   divides = place_divides;
-  answer = refl;
 }

@@ -1,7 +1,7 @@
-use Rattle.std.proofs.Common.{◌≡◌, ℕ, List, ◌++◌, length, vec_items, IfOk, string_bytes, rules, codes, decimal, sum_by, sym, ap, ◌∙◌, append_assoc}
+use Rattle.std.proofs.Common.{◌≡◌, ℕ, List, ◌++◌, length, IfOk, string_bytes, rules, codes, decimal, sum_by, sym, ap, ◌∙◌, append_assoc}
 use Rattle.std.proofs.lemmas.List.{length-map}
 use Rattle.std.proofs.lemmas.Result.{IfOk-weaker}
-use Rattle.files.specs.Views.{path_of, paths_of}
+use Rattle.files.specs.Views.{path_of}
 use Rattle.report.specs.Texts.{spaced, end_line}
 use Rattle.report.proofs.counts_line.Goals as goal
 
@@ -15,10 +15,10 @@ pieces a b d m = regroup (codes "plan ") (decimal a) (codes " ") (decimal b) (de
 pub returns : goal.returns
 returns c =
     let plan = c.args.plan.now in
-    let shuttles : length c.paths.result.now ≡ length (paths_of (vec_items plan.paths)) = ap length c.paths.ensures ∙ sym (length-map (vec_items plan.paths) path_of) in
-    let stops : c.stop_total-stops.result ≡ sum_by length (paths_of (vec_items plan.paths)) = c.stop_total-stops.ensures ∙ ap (λ ps. sum_by length (paths_of ps)) c.paths-2.ensures in
-    let tables = ap length c.tables.ensures in
-    let meetings = ap length c.meetings.ensures in
+    let shuttles : length c.paths.result.now ≡ length plan.paths = sym (length-map c.paths.result.now path_of) ∙ ap length c.paths.ensures.value in
+    let stops : c.stop_total-stops.result ≡ sum_by length plan.paths = c.stop_total-stops.ensures ∙ ap (sum_by length) c.paths-2.ensures.value in
+    let tables = ap length c.tables.ensures.value in
+    let meetings = ap length c.meetings.ensures.value in
     let a = decimal (length c.paths.result.now) in
     let b = decimal c.stop_total-stops.result in
     let d = decimal (length c.tables.result.now) in

@@ -1,19 +1,24 @@
 // What is asked of a run.
-ghost use Rattle.std.specs.Prelude.{◌≡◌, length, Some, Ok, MatchBool};
-ghost use Rattle.traffic.specs.Plans.{named};
+ghost use Rattle.std.specs.Prelude.{◌≡◌, ◌↔◌, length, IsTrue, false, Some, Ok};
+ghost use Rattle.std.specs.Option.{option_and_then, option_copied, option_map, option_map_or};
 ghost use Rattle.run.specs.declared.run.asks.EntryFault.TheVariants as fault;
-ghost use Rattle.run.specs.Asks.{shuttle_on, next_of, first_on, TicksUnder, ArrivalsUnder, Expected, OpenOn, Agrees, Lawful};
-ghost use Rattle.run.specs.Views.{driven_state, state_of};
+ghost use Rattle.run.specs.Asks.{shuttle_of, next_of, first_of};
+ghost use Rattle.run.specs.Lawful.{Agrees, LawfulFor, Lawful};
+ghost use Rattle.run.specs.Opens.{OpenIn, OpenOn, open_at};
+ghost use Rattle.run.specs.Sound.{RunsSoundly};
+ghost use Rattle.run.specs.Timing.{HasExpected, TicksUnder, Expected};
 
 use super::{Driven, Run};
-use crate::named::NamedOrders;
-use crate::refusals::Refusal;
-use floor::entry::{Ring, SHUTTLES, STOPS};
+use crate::laws::runs_stand;
+use floor::passing::PassingOrders;
 use floor::table::Shuttle;
+use floor::timetable::{Ring, Timetable};
 use meetings::meet::First;
 use meetings::stays::At;
+use plans::plan::Plan;
+use refusals::Refusal;
 
-// Why there are no entry ticks: the run has no plan, or the orders close a ring.
+/// Why there are no entry ticks: the run has no plan, or the orders close a ring.
 #[derive(Clone, Copy, PartialEq, Eq, Debug)]
 pub enum EntryFault {
     NoPlan,
@@ -24,119 +29,181 @@ pub enum EntryFault {
 impl From<Ring> for EntryFault {
     ghost from_gives = { λ _ r. r ≡ fault.Ring };
 
-    fn from(_e: Ring) -> EntryFault {
+    fn from(_ring: Ring) -> EntryFault {
         EntryFault::Ring
     }
 }
 
 impl Driven {
-    // The orders in force.
-    pub(super) fn orders(&self) -> NamedOrders
-        ensures { result ≡ named self.now.firsts.items }
+    /// The number that the caller gave the run.
+    pub fn number(&self) -> u32
+        ensures { result ≡ self.now.number }
     {
-        NamedOrders::new(self.firsts.as_slice())
+        self.number
     }
 
-    fn first(&self, meeting: usize) -> Option<First>
-        ensures { result ≡ first_on meeting (Some (driven_state self.now)) }
+    /// The plan that is driven.
+    pub fn plan(&self) -> &Plan
+        ensures value { result.now ≡ self.now.plan }
+        ensures sound { RunsSoundly self.now }
+    {
+        self.floor.plan()
+    }
+
+    /// Who goes first at each meeting, by the orders in force.
+    pub fn firsts(&self) -> &[First]
+        ensures { result.now ≡ self.now.firsts }
+    {
+        self.firsts.as_slice()
+    }
+
+    /// Who goes first at a meeting, if there is such a meeting.
+    pub fn first(&self, meeting: usize) -> Option<First>
+        ensures { result ≡ first_of meeting self.now }
     {
         self.firsts.get(meeting).copied()
     }
 
+    /// The record of a shuttle; none of one that is not in the plan.
+    pub fn shuttle(&self, shuttle: usize) -> Option<Shuttle>
+        ensures { result ≡ shuttle_of shuttle self.now }
+    {
+        self.floor.shuttle(shuttle)
+    }
+
+    /// The next stop of a shuttle; none at its last stop, and none of one that is not in the plan.
+    pub fn next_stop(&self, shuttle: usize) -> Option<At>
+        ensures { result ≡ next_of shuttle self.now }
+    {
+        self.floor.next_stop(shuttle)
+    }
+
+    /// Whether a meeting is open.
+    pub fn is_open(&self, meeting: usize) -> bool
+        ensures test { result ≡ open_at self.now meeting }
+        ensures open { IsTrue result ↔ OpenOn meeting self.now }
+    {
+        self.floor.is_open(meeting)
+    }
+
     // Whether orders agree with those in force wherever a meeting is not open.
     fn agrees(&self, orders: &[First]) -> bool
-        requires { length orders.now ≡ length self.now.firsts.items }
-        ensures { MatchBool result (Agrees (driven_state self.now) orders.now) (Agrees (driven_state self.now) orders.now → ⊥) }
+        requires { length orders.now ≡ length self.now.firsts }
+        ensures { IsTrue result ↔ Agrees self.now orders.now }
     {
-        orders.iter().zip(self.firsts.iter()).enumerate().all(|(j, (order, first))| order == first
-            || self.floor.is_open(j))
+        orders.iter().zip(self.firsts()).enumerate().all(|(meeting, (order, first))| order == first
+            || self.is_open(meeting))
     }
 
-    fn is_lawful(&self, orders: &[First]) -> bool
-        ensures { MatchBool result (Lawful orders.now (Some (driven_state self.now))) (Lawful orders.now (Some (driven_state self.now)) → ⊥) }
+    /// Whether passing orders are lawful.
+    pub fn is_lawful(&self, orders: &[First]) -> bool
+        ensures { IsTrue result ↔ LawfulFor self.now orders.now }
     {
-        if orders.len() != self.firsts.len() || !self.agrees(orders) {
+        if orders.len() != self.plan().meetings().len() || !self.agrees(orders) {
             return false;
         }
-        let named = NamedOrders::new(orders);
-        self.floor.entry_ticks(named.as_slice()).is_ok()
+        let mut timetable = Timetable::new();
+        timetable
+            .work_out(&self.floor, PassingOrders::Named(orders))
+            .is_ok()
     }
 
-    // Each shuttle's arrival under the orders in force, which close no ring.
-    fn expected(&self) -> [u32; SHUTTLES]
-        ensures { Expected (Some (driven_state self.now)) (Ok result) }
+    /// The entry ticks of all stops under orders, of which some may be left out, and the arrivals.
+    pub fn entry_ticks(
+        &self,
+        orders: &[Option<First>],
+        timetable: &mut Timetable,
+    ) -> Result<(), EntryFault>
+        ensures { TicksUnder orders.now (Some self.now) result timetable.old timetable.new }
     {
-        self.floor.arrivals(self.orders().as_slice()).unwrap()
+        timetable.work_out(&self.floor, PassingOrders::Partial(orders))?;
+        Ok(())
+    }
+
+    /// The entry ticks and the arrivals under the orders in force: there always are some.
+    pub fn expected(&self, timetable: &mut Timetable)
+        ensures { HasExpected self.now timetable.new }
+    {
+        runs_stand();
+        timetable
+            .work_out(&self.floor, PassingOrders::Named(self.firsts.as_slice()))
+            .unwrap();
     }
 }
 
 impl Run {
-    // The record of a shuttle; none of one that is not in the plan.
+    /// What is driven; none without a plan.
+    pub fn driven(&self) -> Option<&Driven>
+        ensures { option_copied result ≡ self.now }
+    {
+        self.driven.as_ref()
+    }
+
+    /// The number that the caller gave the run.
+    pub fn number(&self) -> Option<u32>
+        ensures { result ≡ option_map (λ st. st.number) self.now }
+    {
+        Some(self.driven.as_ref()?.number())
+    }
+
+    /// The record of a shuttle; none of one that is not in the plan.
     pub fn shuttle(&self, shuttle: usize) -> Option<Shuttle>
-        ensures { result ≡ shuttle_on shuttle (state_of self.now) }
+        ensures { result ≡ option_and_then (shuttle_of shuttle) self.now }
     {
-        let driven = self.driven.as_ref()?;
-        driven.floor.shuttle(shuttle)
+        self.driven.as_ref()?.shuttle(shuttle)
     }
 
-    // The next stop of a shuttle; none at its last stop, and none of a shuttle that is not in the plan.
+    /// The next stop of a shuttle; none at its last stop, and none of one that is not in the plan.
     pub fn next_stop(&self, shuttle: usize) -> Option<At>
-        ensures { result ≡ next_of shuttle (state_of self.now) }
+        ensures { result ≡ option_and_then (next_of shuttle) self.now }
     {
-        let driven = self.driven.as_ref()?;
-        driven.floor.next_stop(shuttle)
+        self.driven.as_ref()?.next_stop(shuttle)
     }
 
-    // Who goes first at each meeting, by the orders in force.
+    /// Who goes first at a meeting, by the orders in force.
     pub fn first(&self, meeting: usize) -> Option<First>
-        ensures { result ≡ first_on meeting (state_of self.now) }
+        ensures { result ≡ option_and_then (first_of meeting) self.now }
     {
-        let driven = self.driven.as_ref()?;
-        driven.first(meeting)
+        self.driven.as_ref()?.first(meeting)
     }
 
-    // The entry ticks of all stops under orders, of which some may be left out.
-    pub fn entry_ticks(
-        &self,
-        orders: &[Option<First>],
-    ) -> Result<[[u32; STOPS]; SHUTTLES], EntryFault>
-        ensures { TicksUnder orders.now (state_of self.now) result }
-    {
-        let driven = self.driven.as_ref().ok_or(EntryFault::NoPlan)?;
-        Ok(driven.floor.entry_ticks(orders)?)
-    }
-
-    // Each shuttle's arrival under orders, of which some may be left out.
-    pub fn arrivals(&self, orders: &[Option<First>]) -> Result<[u32; SHUTTLES], EntryFault>
-        ensures { ArrivalsUnder orders.now (state_of self.now) result }
-    {
-        let driven = self.driven.as_ref().ok_or(EntryFault::NoPlan)?;
-        Ok(driven.floor.arrivals(orders)?)
-    }
-
-    // Each shuttle's arrival under the orders in force.
-    pub fn expected(&self) -> Result<[u32; SHUTTLES], Refusal>
-        ensures { Expected (state_of self.now) result }
-    {
-        let driven = self.driven.as_ref().ok_or(Refusal::NoPlan)?;
-        Ok(driven.expected())
-    }
-
-    // Whether a meeting is open.
+    /// Whether a meeting is open; none is without a plan.
     pub fn is_open(&self, meeting: usize) -> bool
-        ensures { MatchBool result (OpenOn meeting (state_of self.now)) (OpenOn meeting (state_of self.now) → ⊥) }
+        ensures test { result ≡ option_map_or (λ st. open_at st meeting) self.now false }
+        ensures open { IsTrue result ↔ OpenIn meeting self.now }
     {
         self.driven
             .as_ref()
-            .is_some_and(|driven| driven.floor.is_open(meeting))
+            .is_some_and(|driven| driven.is_open(meeting))
     }
 
-    // Whether passing orders are lawful.
+    /// Whether passing orders are lawful; none are without a plan.
     pub fn is_lawful(&self, orders: &[First]) -> bool
-        ensures { MatchBool result (Lawful orders.now (state_of self.now)) (Lawful orders.now (state_of self.now) → ⊥) }
+        ensures { IsTrue result ↔ Lawful orders.now self.now }
     {
         self.driven
             .as_ref()
             .is_some_and(|driven| driven.is_lawful(orders))
+    }
+
+    /// The entry ticks of all stops under orders, of which some may be left out, and the arrivals.
+    pub fn entry_ticks(
+        &self,
+        orders: &[Option<First>],
+        timetable: &mut Timetable,
+    ) -> Result<(), EntryFault>
+        ensures { TicksUnder orders.now self.now result timetable.old timetable.new }
+    {
+        let driven = self.driven.as_ref().ok_or(EntryFault::NoPlan)?;
+        driven.entry_ticks(orders, timetable)
+    }
+
+    /// The entry ticks and the arrivals under the orders in force.
+    pub fn expected(&self, timetable: &mut Timetable) -> Result<(), Refusal>
+        ensures { Expected self.now result timetable.old timetable.new }
+    {
+        let driven = self.driven.as_ref().ok_or(Refusal::NoPlan)?;
+        driven.expected(timetable);
+        Ok(())
     }
 }

@@ -1,17 +1,19 @@
 // What a run writes.
+ghost use Rattle.std.specs.Prelude.{◌≤◌, length, IsOk, IsSome};
 ghost use Rattle.run.specs.Writes.{OrdersWritten};
-ghost use Rattle.run.specs.Views.{state_of};
 
 use super::Run;
-use crate::refusals::Refusal;
-use orders::write::write_orders;
+use orders::write::{ROOM_FOR_ORDERS, write_orders};
+use refusals::Refusal;
 
 impl Run {
-    // Writes the order file of the orders in force into the front of a buffer, and answers its length.
+    /// Writes the order file of the orders in force into the front of a buffer, and answers its
+    /// length.
     pub fn write_orders(&self, out: &mut [u8]) -> Result<usize, Refusal>
-        ensures { OrdersWritten (state_of self.now) result out.old out.new }
+        ensures written { OrdersWritten self.now result out.old out.new }
+        ensures room { IsSome self.now → ROOM_FOR_ORDERS ≤ length out.old → IsOk result }
     {
         let driven = self.driven.as_ref().ok_or(Refusal::NoPlan)?;
-        Ok(write_orders(driven.floor.plan(), driven.firsts.as_slice(), out)?)
+        Ok(write_orders(driven.plan(), driven.firsts(), out)?)
     }
 }

@@ -12,8 +12,8 @@ use Rattle.orders.proofs.read.guesses.Goals as goal
 pub guess-requires : goal.guess-requires
 guess-requires c =
     let i = c.loop-meeting.meeting-index in
-    let lt = subst (λ (ms : List Meeting). i < length ms) c.meetings-meeting-items.ensures c.loop-meeting-test.true in
-    subst (λ (ms : List Meeting). FitsMeeting (get_or ms i no_meeting)) (sym c.meetings-meeting-items.ensures) (plan_fits c.args.plan.now i lt)
+    let lt = subst (λ (ms : List Meeting). i < length ms) c.meetings-meeting-items.ensures.value c.loop-meeting-test.true in
+    subst (λ (ms : List Meeting). FitsMeeting (get_or ms i no_meeting)) (sym c.meetings-meeting-items.ensures.value) (plan_fits c.meetings_stand.ensures.listed c.args.plan.now c.meetings-meeting-items.ensures.kept i lt)
 
 pub loop-meeting-preserved : goal.loop-meeting-preserved
 loop-meeting-preserved c =
@@ -29,9 +29,9 @@ loop-meeting-preserved c =
           (subst (At c.loop-meeting.meeting-index) (sym (ap (λ l. get_or l c.loop-meeting.meeting-index Lower) items ∙ get_or_push old c.guess.result Lower c.loop-meeting.meeting-index c.loop-meeting.invariant.0)) c.guess.ensures),
     )
 
-pub returns : goal.returns
-returns c =
-    let is = c.meetings-meeting-items.ensures in
+pub returns-clause-value : goal.returns-clause-value
+returns-clause-value c =
+    let is = c.meetings-meeting-items.ensures.value in
     let n : length (vec_items c.loop-meeting.firsts) ≡ length c.meetings-meeting-items.result.now = omega (arith, c.loop-meeting.invariant.0) in (
       n ∙ ap length is,
       λ k lt. subst (λ (ms : List Meeting). Guessed c.args.bytes.now (get_or ms k no_meeting) (get_or (vec_items c.loop-meeting.firsts) k Lower)) is (c.loop-meeting.invariant.1 k (omega (arith, ap length is))),

@@ -8,5 +8,5 @@ use Rattle.orders.proofs.waits.plan_waits.Goals as goal
 pub wait_of-requires : goal.wait_of-requires
 wait_of-requires c =
     let i = c.loop-meeting.meeting-index in
-    let lt = subst (λ (ms : List Meeting). i < length ms) c.meetings-meeting-items.ensures c.loop-meeting-test.true in
-    subst (λ (ms : List Meeting). FitsMeeting (get_or ms i no_meeting)) (sym c.meetings-meeting-items.ensures) (plan_fits c.args.plan.now i lt)
+    let lt = subst (λ (ms : List Meeting). i < length ms) c.meetings-meeting-items.ensures.value c.loop-meeting-test.true in
+    subst (λ (ms : List Meeting). FitsMeeting (get_or ms i no_meeting)) (sym c.meetings-meeting-items.ensures.value) (plan_fits c.meetings_stand.ensures.listed c.args.plan.now c.meetings-meeting-items.ensures.kept i lt)

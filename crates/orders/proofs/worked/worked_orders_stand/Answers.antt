@@ -8,4 +8,4 @@ own-waits [] = refl
 own-waits (m ∷ ms) = ap (λ ws. wait_under m m.first ∷ ws) (own-waits ms)
 
 pub returns : goal.returns
-returns c = record { bytes = refl; own = own-waits; answer = refl }
+returns c = record { bytes = refl; own = own-waits }

@@ -1,17 +1,26 @@
-use Rattle.std.proofs.Common.{◌≡◌, List, length, vec_items, sym, ap, ◌∙◌, subst}
-use Rattle.files.specs.declared.plan.Path as plan
-use Rattle.files.specs.Views.{paths_of}
-use Rattle.floor.specs.Scenes.{AllPlaced}
-use Rattle.floor.specs.Shuttles.{all_fresh}
+use Rattle.std.proofs.Common.{◌≡◌, List, length, sym, ap, ◌∙◌, subst, subst₂}
+use Rattle.std.specs.List.{AllByRecursion}
 use Rattle.std.proofs.lemmas.List.{length-map}
 use Rattle.files.specs.Views.{path_of}
-use Rattle.floor.proofs.Scenes.{placed_fresh}
-use Rattle.floor.proofs.Sound.{path_some}
+use Rattle.meetings.specs.Laws.{Meets}
+use Rattle.floor.specs.Floors.{IsFloor}
+use Rattle.floor.specs.Indexes.{IsIndexOf}
+use Rattle.floor.specs.Shuttles.{all_fresh}
+use Rattle.floor.proofs.Calling.{floor_fresh}
+use Rattle.floor.proofs.Floors.{all_meet}
 use Rattle.floor.proofs.floor.Floor.new.Goals as goal
+use Rattle.floor.proofs.floor.Floor.new.Goals.{In_ok-shuttles}
 
-pub invariant_of-result-clause-placed : goal.invariant_of-result-clause-placed
-invariant_of-result-clause-placed c =
-    let p = c.args.plan in
-    let ps = paths_of (vec_items p.paths) in
-    let fresh : vec_items c.in_ok-shuttles.shuttles.records ≡ all_fresh (length ps) = c.in_ok-shuttles.ensures ∙ ap (λ (l : List plan.Path). all_fresh (length l)) c.paths-2.ensures ∙ ap all_fresh (sym (length-map (vec_items p.paths) path_of)) in
-    ∣ subst (AllPlaced ps) (sym fresh) (placed_fresh ps (path_some ps (vec_items p.tables) (vec_items p.meetings) p.sound)) ∣₁
+pub new-requires-clause-meet : goal.new-requires-clause-meet
+new-requires-clause-meet c =
+    let plan = c.args.plan in
+    subst₂ (λ ps ms. AllByRecursion (Meets ps) ms) (sym c.paths.ensures.value) (sym c.meetings.ensures.value) (all_meet plan c.paths.ensures.kept (c.meetings_stand.ensures.listed plan.paths))
+
+pub invariant_of-result : goal.invariant_of-result
+invariant_of-result c =
+    let plan = c.args.plan in
+    let x = c.in_ok-index.index in
+    let fresh : c.in_ok-shuttles.shuttles ≡ all_fresh (length plan.paths) =
+    c.in_ok-shuttles.ensures ∙ ap all_fresh (sym (length-map c.paths-2.result.now path_of) ∙ ap (λ (l : List _). length l) c.paths-2.ensures.value) in
+    let index = subst₂ (λ ps ms. IsIndexOf ps ms x) c.paths.ensures.value c.meetings.ensures.value c.in_ok-index.ensures in
+    subst (λ xs. IsFloor (record { plan = plan; shuttles = xs }) x) (sym fresh) (floor_fresh plan x c.paths.ensures.kept (c.meetings_stand.ensures.listed plan.paths) index)

@@ -1,7 +1,6 @@
-use Rattle.std.proofs.Common.{◌≡◌, ◌+◌, ◌≤◌, ◌⊎◌, inl, inr, refl, [], ◌∷◌, ◌++◌, length, vec_items, sym, ap, ◌∙◌, subst, arith}
+use Rattle.std.proofs.Common.{◌≡◌, ◌+◌, ◌≤◌, ◌⊎◌, inl, inr, refl, [], ◌∷◌, ◌++◌, length, sym, ap, ◌∙◌, subst, arith}
 use Rattle.std.proofs.lemmas.List.{length-append}
 use Rattle.std.specs.List.{AllByRecursion}
-use Rattle.files.specs.Views.{paths_of}
 use Rattle.orders.specs.File.{wait_bytes, body_bytes, over}
 use Rattle.orders.specs.Plans.{waits_of}
 use Rattle.orders.specs.Waits.{waits, FitsMeeting}
@@ -15,10 +14,10 @@ pub loop-meeting-init : goal.loop-meeting-init
 loop-meeting-init c =
     let plan = c.args.self.now.plan.now in
     let s = c.args.shuttle in
-    let ms : c.into_iter-meeting-iterator.result.a.rest.now ≡ vec_items plan.meetings = cc in
+    let ms : c.into_iter-meeting-iterator.result.a.rest.now ≡ plan.meetings = cc in
     let fs : c.into_iter-meeting-iterator.result.b.rest.now ≡ c.args.self.now.firsts.now = cc in
     let same : body_bytes (waits c.into_iter-meeting-iterator.result.a.rest.now c.into_iter-meeting-iterator.result.b.rest.now) s ≡ body_bytes (waits_of c.args.self.now) s = (λ i. body_bytes (waits (ms i) (fs i)) s) in
-    (ap (over c.args.out.now c.args.at) same, ap (λ bs. c.args.at + length bs) same, subst (AllByRecursion FitsMeeting) (sym ms) (meetings_fit (paths_of (vec_items plan.paths)) (vec_items plan.tables) (vec_items plan.meetings) plan.sound))
+    (ap (over c.args.out.now c.args.at) same, ap (λ bs. c.args.at + length bs) same, subst (AllByRecursion FitsMeeting) (sym ms) (meetings_fit c.meetings_stand.ensures.listed plan c.meetings.ensures.kept))
 
 pub loop-meeting-preserved-then-wait-shuttle : goal.loop-meeting-preserved-then-wait-shuttle
 loop-meeting-preserved-then-wait-shuttle c =

@@ -1,16 +1,18 @@
-use Rattle.std.proofs.Common.{List, Option, ◌∙◌, subst, arith, MatchResult}
-use Rattle.meetings.specs.declared.meet.First.{First}
-use Rattle.floor.specs.Floors.{scene_in}
-use Rattle.floor.specs.Sweeps.{Worked}
-use Rattle.run.specs.Asks.{Ringed}
-use Rattle.run.specs.Views.{driven_state}
-use Rattle.run.proofs.Lawfuls.{firsts_count, judged_lawful}
+use Rattle.std.proofs.Common.{◌≡◌, ◌↔◌, List, length, refl, sym, ap, ◌∙◌, subst, IsTrue, arith}
+use Rattle.meetings.specs.declared.meet.Meeting.{Meeting}
+use Rattle.plans.specs.Kept.{OpenedPlan}
+use Rattle.run.specs.Lawful.{Agrees, LawfulFor}
+use Rattle.run.specs.State.{State, meetings_on}
+use Rattle.run.specs.Views.{state_in}
+use Rattle.run.proofs.Timing.{judged_lawful}
 use Rattle.run.proofs.run.Driven.is_lawful.Goals as goal
 
 pub returns : goal.returns
 returns c =
-    let d = c.args.self.now in
-    let st = driven_state d in
-    let m = subst (λ (os : List (Option First)). MatchResult c.entry_ticks.result (Worked (scene_in d.floor os)) (λ _. Ringed (scene_in d.floor os))) (c.as_slice.ensures ∙ c.new-named.ensures) c.entry_ticks.ensures in
-    judged_lawful st d.floor.plan.sound d.in_force c.args.orders.now c.entry_ticks.result c.is_ok.result c.is_ok.ensures.value
-    (omega (arith, firsts_count st d.floor.plan.sound d.in_force, c.if-orders-len.false, c.len.ensures, d.firsts.ok.0)) c.if-not-agrees.ensures m
+    let st = state_in c.self.inside in
+    let orders = c.args.orders.now in
+    let agree : Agrees st orders = subst (λ (st : State). Agrees st orders) (sym c.self.view_is) (c.if-not-agrees.ensures.0 refl) in
+    let listed : c.meetings.result.now ≡ meetings_on st = c.meetings.ensures.value ∙ ap (λ (p : OpenedPlan). p.meetings) c.plan.ensures.value ∙ ap (λ (st : State). meetings_on st) (sym c.self.view_is) in
+    let count : length orders ≡ length (meetings_on st) = omega (arith, c.if-orders-meetings.false, ap (λ (ms : List Meeting). length ms) listed) in
+    subst (λ (st : State). IsTrue c.is_ok.result ↔ LawfulFor st orders) c.self.view_is
+    (judged_lawful st orders c.work_out.new.self c.work_out.result c.is_ok.result c.is_ok.ensures.value c.work_out.ensures.ticks c.work_out.ensures.ring count agree)

@@ -1,0 +1,11 @@
+//! The laws of shuttle records, on the contract of a function that does nothing.
+ghost use Rattle.floor.specs.Laws.{FloorLaws};
+
+use traffic::steps_stand;
+
+/// Over ticks and holds shuttle records are as their scenes.
+pub fn floors_stand()
+    ensures { FloorLaws }
+{
+    steps_stand();
+}

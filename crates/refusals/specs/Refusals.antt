@@ -1,0 +1,17 @@
+-- The number of each refusal, and the values that it gives.
+use Rattle.std.specs.Prelude.{[], None, Option}
+use Rattle.plans.specs.Refusals.{NumberAndValues, gives, plan_refusal}
+use Rattle.refusals.specs.declared.Refusal.{Refusal}
+use Rattle.refusals.specs.declared.Refusal.TheVariants.{NoPlan, HasPlan, Plan, Memory, NoShuttle, AtLastStop, LongHold, ShortBuffer, BadLine}
+
+-- A plan that is refused has the numbers 3 to 6. Want of memory has none.
+abbrev pub refusal : Refusal → Option NumberAndValues
+refusal NoPlan = gives 1 []
+refusal HasPlan = gives 2 []
+refusal (Plan fault) = plan_refusal fault
+refusal Memory = None
+refusal NoShuttle = gives 7 []
+refusal AtLastStop = gives 8 []
+refusal LongHold = gives 9 []
+refusal ShortBuffer = gives 16 []
+refusal BadLine = gives 17 []
