@@ -1,0 +1,20 @@
+use Rattle.std.proofs.Common.{◌≡◌, sym, subst, IfOk, Result}
+use Rattle.search.specs.Reaching.{Searches}
+use Rattle.search.specs.declared.found.Found.{Found}
+use Rattle.search.specs.declared.found.SearchFault.{SearchFault}
+use Rattle.search.proofs.tests.both.Goals as goal
+
+abbrev Same : Result Found SearchFault → Result Found SearchFault → Type 0
+Same r s = IfOk r (λ found. IfOk s (λ other. found.cost ≡ other.cost))
+
+same_by : {r s t u : Result Found SearchFault} → r ≡ t → s ≡ u → Same t u → Same r s
+same_by {r} {s} {t} {u} p q h = subst (λ r. Same r s) (sym p) (subst (λ s. Same t s) (sym q) h)
+
+pub returns : goal.returns
+returns g c =
+    let a = c.search-first.ensures.course in
+    let w = g.M.WaitingList in
+    let other = c.args.other.now in
+    let b : Searches w.nodes w.moves (g.P.Problem.question c.args.problem.now) (w.capacity other) 7 c.search-second.result other c.search-second.new.list = rw c.search-first.ensures.same at c.search-second.ensures.course in
+    same_by a.answers b.answers
+    (c.searches_stand.ensures.same (g.P.Problem.question c.args.problem.now) (g.met.P.Problem.searchable c.args.problem.now) (g.L.WaitingList.capacity c.args.list.now) 100 a.places (w.capacity other) 7 b.places)
