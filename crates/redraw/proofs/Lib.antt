@@ -1,0 +1,10 @@
+pub mod Asking
+pub mod Below
+pub mod Complete
+pub mod Evaluating
+pub mod Filling
+pub mod Lowest
+pub mod Opening
+pub mod Redrawing
+pub mod Scenes
+pub mod Wording
