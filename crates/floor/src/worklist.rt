@@ -173,8 +173,10 @@ impl Worklist {
     {
         let entry = &mut self.entries[at.shuttle][at.stop];
         entry.tick = tick;
-        self.ready |= entry.waiting;
-        entry.waiting = 0;
+        if entry.waiting != 0 {
+            self.ready |= entry.waiting;
+            entry.waiting = 0;
+        }
         self.progress[at.shuttle].stop = at.stop;
     }
 
