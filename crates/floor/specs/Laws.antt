@@ -1,5 +1,5 @@
 -- The laws of shuttle records: over ticks and holds they are as their scenes.
-use Rattle.std.specs.Prelude.{◌≡◌, ℕ, ◌<◌, ◌≤◌, Bool, false, List, length, None, Option}
+use Rattle.std.specs.Prelude.{◌≡◌, ℕ, ◌<◌, ◌≤◌, false, List, length, None, Option}
 use Rattle.files.specs.declared.plan.Stop.{Stop}
 use Rattle.files.specs.Rules.{path_at}
 use Rattle.meetings.specs.declared.meet.First.{First}
