@@ -12,7 +12,7 @@ pub struct Clash {
     pub other: At,
 }
 
-fn clashing(a: &Stay, b: &Stay) -> bool
+pub(crate) fn clashing(a: &Stay, b: &Stay) -> bool
     ensures { result ≡ clashes a.now b.now }
 {
     meet(a, b) && !left_before(a, b) && !left_before(b, a)

@@ -25,6 +25,9 @@ pub fn settle(alloc: Global, paths: &[Path]) -> Result<Vec<Meeting>, MeetingFaul
     paths_stand();
     let stays = stays_of(alloc, paths)?;
     let meetings = find_meetings(alloc, stays.as_slice())?;
-    first_clash(stays.as_slice())?;
-    Ok(meetings)
+    // All pairs are gone over once more only where one of them clashes.
+    if meetings.clash {
+        first_clash(stays.as_slice())?;
+    }
+    Ok(meetings.all)
 }

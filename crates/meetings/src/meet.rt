@@ -4,7 +4,7 @@ ghost use Rattle.meetings.specs.declared.meet.MeetingFault.TheVariants.{Collisio
 ghost use Rattle.meetings.specs.Meetings.{is_left_before, meets, meeting_between};
 ghost use Rattle.meetings.specs.Settled.{Found};
 
-use crate::clash::Clash;
+use crate::clash::{Clash, clashing};
 use crate::stays::{At, Stay};
 use std::alloc::{AllocError, AllocFailed, Global};
 
@@ -24,6 +24,13 @@ pub struct Meeting {
     pub lower: At,
     pub other: At,
     pub first: First,
+}
+
+// All meetings in order, and whether one of them clashes.
+#[derive(Drop)]
+pub(crate) struct Meetings {
+    pub(crate) all: Vec<Meeting>,
+    pub(crate) clash: bool,
 }
 
 // Why meetings cannot be settled: too many of them, two paths that collide, or want of memory.
@@ -89,19 +96,21 @@ fn meeting_of(a: &Stay, b: &Stay) -> Meeting
 }
 
 // The meetings of stays in shuttle and stop order, unless there are too many.
-pub(crate) fn find_meetings(alloc: Global, stays: &[Stay]) -> Result<Vec<Meeting>, MeetingFault>
+pub(crate) fn find_meetings(alloc: Global, stays: &[Stay]) -> Result<Meetings, MeetingFault>
     ensures { Found result stays.now }
 {
-    let mut found = Vec::new(alloc);
+    let mut all = Vec::new(alloc);
+    let mut clash = false;
     for (k, a) in stays.iter().enumerate() {
         for b in &stays[k + 1..] {
             if meet(a, b) {
-                if found.len() >= MOST_MEETINGS {
+                if all.len() >= MOST_MEETINGS {
                     return Err(MeetingFault::TooMany);
                 }
-                found.push(meeting_of(a, b))?;
+                all.push(meeting_of(a, b))?;
+                clash = clash || clashing(a, b);
             }
         }
     }
-    Ok(found)
+    Ok(Meetings { all, clash })
 }

@@ -14,6 +14,6 @@ returns-in_err-first_clash-clause-collision c d is keeps =
     let found = c.in_err-first_clash.field-0.0 in
     let out = err_from_is_err_and c.from_residual-in_err-first_clash.result c.from_residual-in_err-first_clash.ensures.1 in
     let same : found ≡ d = cc (is, out.1, out.2) in
-    let all : c.as_slice-2.result.now ≡ stays ps = c.as_slice-2.ensures.value ∙ c.in_ok-stays.ensures in
+    let all : c.as_slice-then-meetings.result.now ≡ stays ps = c.as_slice-then-meetings.ensures.value ∙ c.in_ok-stays.ensures in
     first_collision_law c.paths_stand.ensures.rise ps keeps d
     (subst (λ (x : Clash). FirstClash (stays ps) x) same (subst (λ (xs : List Stay). FirstClash xs found) all c.in_err-first_clash.ensures))
