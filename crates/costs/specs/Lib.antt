@@ -1,4 +1,5 @@
 pub mod Figures
+pub mod Kinds
 pub mod Laws
 pub mod Layers
 pub mod Totals

@@ -4,6 +4,7 @@
 pub mod cost;
 pub mod due;
 pub mod figures;
+pub mod kinds;
 pub mod last;
 pub mod sum;
 #[cfg(test)]

@@ -1,4 +1,4 @@
-// A layer over a layer, and totals at their ends. The expected values were worked out by hand.
+// A layer over a layer, costs of several kinds in one list, and totals at their ends. The expected values were worked out by hand.
 ghost use Rattle.std.specs.Prelude.{◌≤◌};
 ghost use Rattle.std.specs.List.{All, AllZip};
 
@@ -8,6 +8,7 @@ use crate::figures::FIGURES;
 use crate::last::Last;
 use crate::sum::Sum;
 use crate::weight::Weight;
+use either::{Either, Left, Right};
 
 // How much more later arrivals cost: it falls nowhere below 0, by any cost.
 fn rise<C: Cost>(cost: &C, arrivals: &[u32], later: &[u32]) -> u64
@@ -33,6 +34,18 @@ fn layers_over_layers(rt: HostRuntime) {
     let cost = weighed_lateness();
     assert_eq!(rt; total(&cost, &[2, 4]), 4000);
     assert_eq!(rt; rise(&cost, &[2, 4], &[7, 9]), 7000);
+}
+
+// Each cost of a list goes by its own kind.
+#[test]
+fn costs_of_three_kinds(rt: HostRuntime) {
+    let costs: [Either<Either<Sum, Last>, Due<Weight<Sum>>>; 3] = [
+        Left(Left(Sum)),
+        Left(Right(Last)),
+        Right(weighed_lateness()),
+    ];
+    let totals = costs.map(|cost| total(&cost, &[7, 9]));
+    assert_eq!(rt; totals, [16, 9, 11000]);
 }
 
 #[test]

@@ -1,3 +1,4 @@
+pub mod Kinds
 pub mod Lists
 pub mod Moves
 pub mod Nodes

@@ -4,6 +4,7 @@
 ghost use Rattle.lists.specs.Nodes.{NodesOrder};
 
 pub mod dive;
+pub mod kinds;
 pub mod node;
 pub mod node_heap;
 pub mod stack;

@@ -1,11 +1,13 @@
-// Layers over layers, and lists at their ends. The expected values were worked out by hand.
-ghost use Rattle.std.specs.Prelude.{◌≡◌, ◌+◌, length, MatchResult};
+// Layers over layers, lists of several kinds in one list, and lists at their ends. The expected values were worked out by hand.
+ghost use Rattle.std.specs.Prelude.{◌≡◌, ◌+◌, ◌<◌, ⊤, length, MatchResult};
+ghost use Rattle.either.specs.Either.{MatchEither};
 
 use crate::dive::Dive;
 use crate::node::Node;
 use crate::node_heap::NodeHeap;
 use crate::stack::Stack;
 use crate::waiting::{Full, WaitingList};
+use either::{Either, Left, Right};
 
 // A layer that counts what the list below refuses: a refusal need not leave a list as it was.
 #[derive(Drop)]
@@ -88,6 +90,14 @@ fn put_take_clear(memory: &mut [Node], node: Node) -> (Option<Node>, u64)
     (first, list.len())
 }
 
+// A stack that has room gives the node back that was put, though the list might have been a heap.
+fn put_take(list: &mut Either<Stack<'_>, NodeHeap<'_>>, node: Node) -> Option<Node>
+    ensures { MatchEither list.old (λ stack. 0 < stack.free → result ≡ Some node) (λ _. ⊤) }
+{
+    let _ = list.put(node);
+    list.take()
+}
+
 #[test]
 fn dives_over_a_heap(rt: HostRuntime) {
     let mut memory = [Node::default(); 3];
@@ -121,6 +131,26 @@ fn dive_over_a_stack(rt: HostRuntime) {
     assert_eq!(rt; fill(&mut list), 10);
     list.clear();
     assert_eq!(rt; next_three(&mut list), ([None; 3], 0));
+}
+
+// Each list of a list goes by its own kind, and has the capacity of its own.
+#[test]
+fn lists_of_three_kinds(rt: HostRuntime) {
+    let mut first = [Node::default(); 3];
+    let mut second = [Node::default(); 4];
+    let mut third = [Node::default(); 5];
+    let seven = node(7);
+    assert!(rt; put_take(&mut Left(Stack::new(&mut first)), seven) == Some(seven));
+    let mut lists: [Either<Either<Stack, NodeHeap>, Dive<Stack>>; 3] = [
+        Left(Left(Stack::new(&mut first))),
+        Left(Right(NodeHeap::new(&mut second))),
+        Right(Dive::new(Stack::new(&mut third))),
+    ];
+    let wanted = [(3, Some(2)), (4, Some(0)), (13, Some(7))];
+    for (list, (length, bound)) in lists.iter_mut().zip(wanted) {
+        assert_eq!(rt; fill(list), length);
+        assert_eq!(rt; list.take().map(|node| node.bound), bound);
+    }
 }
 
 #[test]
