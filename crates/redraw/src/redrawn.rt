@@ -2,9 +2,10 @@
 ghost use Rattle.std.specs.Prelude.{◌≡◌, ◌<◌, ◌≤◌, length, slice_set};
 ghost use Rattle.meetings.specs.declared.meet.TheConstants.{MOST_MEETINGS};
 ghost use Rattle.redraw.specs.declared.redrawn.RedrawFault.TheVariants as fault;
-ghost use Rattle.redraw.specs.Faults.{from_search};
+ghost use Rattle.redraw.specs.Faults.{from_search, refusal_of};
 
 use meetings::meet::{First, MOST_MEETINGS};
+use refusals::Refusal;
 use search::found::SearchFault;
 use std::marker::Model;
 
@@ -63,15 +64,18 @@ pub struct Redrawn {
     pub orders: CompleteOrders,
 }
 
-/// Why there are none: too many meetings are open, the list was full, or the budget was used up; with how many nodes were taken.
+/// Why there are none, with how many nodes were taken.
 #[derive(Clone, Copy, Debug, PartialEq, Eq)]
 pub enum RedrawFault {
+    /// More than 64 meetings are open.
     TooManyOpen,
+    /// The list refused a node.
     ListFull { taken: u32 },
+    /// As many nodes were taken as the budget allows, and another waited.
     BudgetSpent { taken: u32 },
 }
 
-// Written out, since a derived conversion (`thiserror`) has no clause that says what comes of it.
+// The conversions are written out, since derived ones (`thiserror`) have no clause that says what comes of each fault.
 impl From<SearchFault> for RedrawFault {
     ghost from_gives = { λ e r. r ≡ from_search e };
 
@@ -79,6 +83,18 @@ impl From<SearchFault> for RedrawFault {
         match fault {
             SearchFault::Full { taken } => RedrawFault::ListFull { taken },
             SearchFault::Budget { taken } => RedrawFault::BudgetSpent { taken },
+        }
+    }
+}
+
+impl From<RedrawFault> for Refusal {
+    ghost from_gives = { λ e r. r ≡ refusal_of e };
+
+    fn from(fault: RedrawFault) -> Refusal {
+        match fault {
+            RedrawFault::TooManyOpen => Refusal::TooManyOpen,
+            RedrawFault::ListFull { taken } => Refusal::ListFull { taken },
+            RedrawFault::BudgetSpent { taken } => Refusal::BudgetSpent { taken },
         }
     }
 }

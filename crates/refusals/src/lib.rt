@@ -11,18 +11,38 @@ use orders::write::OrderFault;
 use plans::plan::opening::{MOST_VALUES, PlanFault};
 use std::alloc::AllocError;
 
-/// Why a call is refused: no plan, a plan already, a plan that is refused, want of memory, no such
-/// shuttle, a hold at a last stop, a hold too long, a buffer too short, or a bad line.
+/// Why a call is refused.
 #[derive(Clone, Copy, PartialEq, Eq, Debug)]
 pub enum Refusal {
+    /// The run has no plan.
     NoPlan,
+    /// The run has a plan already.
     HasPlan,
+    /// The plan itself is refused.
     Plan(PlanFault),
+    /// Memory is wanting.
     Memory,
+    /// The plan has no such shuttle.
     NoShuttle,
+    /// The shuttle is at its last stop.
     AtLastStop,
+    /// The hold would get too long.
     LongHold,
+    /// More than 64 meetings are open at a draft.
+    TooManyOpen,
+    /// 60,000 drafts have been given.
+    TooManyDrafts,
+    /// The search's list refused a node.
+    ListFull { taken: u32 },
+    /// The search has taken as many nodes as it may.
+    BudgetSpent { taken: u32 },
+    /// No draft is in hand, or the slip is not of this run and that draft.
+    NotInHand,
+    /// The draft is overtaken.
+    Overtaken,
+    /// What is written is longer than the buffer.
     ShortBuffer,
+    /// The console's line is bad.
     BadLine,
 }
 
@@ -66,6 +86,12 @@ impl Refusal {
             Refusal::NoShuttle => Some(7),
             Refusal::AtLastStop => Some(8),
             Refusal::LongHold => Some(9),
+            Refusal::TooManyOpen => Some(10),
+            Refusal::TooManyDrafts => Some(11),
+            Refusal::ListFull { .. } => Some(12),
+            Refusal::BudgetSpent { .. } => Some(13),
+            Refusal::NotInHand => Some(14),
+            Refusal::Overtaken => Some(15),
             Refusal::ShortBuffer => Some(16),
             Refusal::BadLine => Some(17),
         }
@@ -77,14 +103,26 @@ impl Refusal {
     {
         match self {
             Refusal::Plan(fault) => fault.values(),
+            Refusal::ListFull { taken } | Refusal::BudgetSpent { taken } => {
+                let mut values = ArrayVec::new();
+                values.push(taken as usize);
+                values
+            }
             Refusal::NoPlan
             | Refusal::HasPlan
             | Refusal::Memory
             | Refusal::NoShuttle
             | Refusal::AtLastStop
             | Refusal::LongHold
+            | Refusal::TooManyOpen
+            | Refusal::TooManyDrafts
+            | Refusal::NotInHand
+            | Refusal::Overtaken
             | Refusal::ShortBuffer
             | Refusal::BadLine => ArrayVec::new(),
         }
     }
 }
+
+#[cfg(test)]
+mod tests;
