@@ -1,7 +1,7 @@
 -- Later arrivals never give a smaller total.
 use Rattle.std.proofs.Common.{ℕ, suc, ◌+◌, ◌^◌, ◌<◌, ◌≤◌, fold, List, [], ◌∷◌, arith}
 use Rattle.std.specs.List.{All, AllZip, enumerate_from}
-use Rattle.costs.specs.Laws.{LaterNeverLess, GreaterNeverLess, GivesTotals, NoneLaterIsLess}
+use Rattle.costs.specs.Laws.{LaterNeverLess, GreaterNeverLess, GivesTotals, TotalsNeverLess}
 use Rattle.costs.specs.Totals.{total}
 
 pub total_from_later :
@@ -18,5 +18,6 @@ total_from_later start next l g f t u shuttle (a ∷ xs) (b ∷ bs) le fits few 
     total_from_later start next l g f (next t shuttle a) (next u shuttle b) (shuttle + 1) xs bs (omega (arith, sooner, less)) (f.1 u shuttle b fits (few 0 b (omega arith))) (λ k d h. few (suc k) d (omega (arith, h))) no_earlier.1
 
 -- the total of some arrivals is no more than that of any that are each no earlier
-pub total_later : (start : ℕ) (next : ℕ → ℕ → ℕ → ℕ) → LaterNeverLess next → GreaterNeverLess next → GivesTotals start next → (arrivals : List ℕ) → NoneLaterIsLess start next arrivals (total start next arrivals)
-total_later start next l g f arrivals later few no_earlier = total_from_later start next l g f start start 0 arrivals later (omega arith) f.0 few no_earlier
+pub total_later : TotalsNeverLess
+total_later start next keeps arrivals later few no_earlier =
+    total_from_later start next keeps.later keeps.greater keeps.fits start start 0 arrivals later (omega arith) keeps.fits.0 few no_earlier

@@ -17,6 +17,7 @@ use Rattle.orders.specs.declared.waits.Wait.{Wait}
 use Rattle.search.specs.Decisions.{Agrees}
 use Rattle.search.specs.Questions.{Costs, IsNode, IsSearchable, NoMoreThan}
 use Rattle.search.specs.declared.finding.Finding.TheVariants.{Done, Branch}
+use Rattle.costs.specs.Laws.{IsCost}
 use Rattle.costs.specs.Totals.{total}
 use Rattle.traffic.specs.Index.{meeting_at, WaitsAt}
 use Rattle.traffic.specs.Plans.{named}
@@ -29,7 +30,7 @@ use Rattle.run.specs.Lawful.{first_at, LawfulFor}
 use Rattle.run.specs.Opens.{open_at, open_meetings, rank}
 use Rattle.run.specs.Sound.{RunsSoundly}
 use Rattle.run.specs.State.{State, paths_on, meetings_on, count_on, scene_now}
-use Rattle.redraw.specs.Costs.{IsCost, cost_of, total_by}
+use Rattle.redraw.specs.Costs.{cost_of, total_by}
 use Rattle.redraw.specs.Nodes.{leaves_before, lowest, found_by, found_at, finding, question}
 use Rattle.redraw.specs.Orders.{first_by, orders_of_word, orders_of}
 use Rattle.redraw.proofs.Below.{Below}
@@ -86,7 +87,7 @@ module _ (b : Below) (start : ℕ) (next : ℕ → ℕ → ℕ → ℕ) (st : St
           let n = count_on st in
           let timed = b.rounds.timed n less e (all_at b st sound (orders_of st decided turned)) is in
           let c = full b st sound word in
-          let most = b.totals start next cost_keeps.later cost_keeps.greater cost_keeps.fits (arrivals_by less n e) (arrivals_by c n t.ticks)
+          let most = b.totals start next cost_keeps (arrivals_by less n e) (arrivals_by c n t.ticks)
           (all_range (λ s. t.ticks s (c.last s)) (2 ^ 32) n (λ s. omega (arith, b.rounds.late n c t.ticks (all_at b st sound (named (orders_of_word st word))) word_timed s (c.last s) (le_refl (c.last s)), b.runs.few sound.0 st sound.1)))
           (zip_range (λ s. e s (c.last s)) (λ s. t.ticks s (c.last s)) (λ s. b.ticks.later less c.waits e t.ticks (among b st sound decided turned word a) timed.ticks word_timed.ticks s (c.last s) (le_refl (c.last s)) word_on) n 0) in
           omega (arith, most, t.total)

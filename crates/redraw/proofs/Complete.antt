@@ -7,6 +7,7 @@ use Rattle.std.proofs.lemmas.List.{length-map}
 use Rattle.std.proofs.lemmas.List.FromFn.{fill_by_all}
 use Rattle.std.proofs.lemmas.Nat.Bits.{bit_at_ones}
 use Rattle.meetings.specs.declared.meet.First.{First}
+use Rattle.costs.specs.Laws.{IsCost}
 use Rattle.search.specs.Questions.{Question}
 use Rattle.search.specs.declared.finding.Finding.{Finding}
 use Rattle.search.specs.declared.finding.Finding.TheVariants.{Ring, Done}
@@ -17,7 +18,7 @@ use Rattle.floor.specs.Words.{bit}
 use Rattle.run.specs.Opens.{open_at, open_meetings, rank}
 use Rattle.run.specs.Sound.{RunsSoundly}
 use Rattle.run.specs.State.{State, count_on, scene_under}
-use Rattle.redraw.specs.Costs.{IsCost, cost_of, total_by}
+use Rattle.redraw.specs.Costs.{cost_of, total_by}
 use Rattle.redraw.specs.Nodes.{leaves_before, lowest, found_by, found_at, finding, question}
 use Rattle.redraw.specs.Orders.{first_by, orders_of_word, order_by, orders_of}
 use Rattle.redraw.proofs.Below.{Below}

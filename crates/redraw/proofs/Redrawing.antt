@@ -1,5 +1,6 @@
 -- What is redrawn is best.
 use Rattle.std.proofs.Common.{◌≡◌, ℕ, List, Some, Result, Ok, Err, IfOk, IsOk, sym, refl, ap, ◌∙◌, arith}
+use Rattle.costs.specs.Laws.{IsCost}
 use Rattle.lists.specs.Moves.{Move}
 use Rattle.lists.specs.declared.node.Node.{Node}
 use Rattle.search.specs.Laws.{FindsLeast, FindsWithRoom}
@@ -10,11 +11,11 @@ use Rattle.search.specs.declared.found.Found.{Found}
 use Rattle.search.specs.declared.found.SearchFault.{SearchFault}
 use Rattle.run.specs.Sound.{RunsSoundly}
 use Rattle.run.specs.State.{State}
-use Rattle.redraw.specs.Costs.{IsBest, IsCost, cost_of}
+use Rattle.redraw.specs.Costs.{IsBest, cost_of}
 use Rattle.redraw.specs.Laws.{RunsAreSearchable, RedrawsBest, RedrawsOneCost, RedrawsWithRoom, WordsStandForOrders}
 use Rattle.redraw.specs.Nodes.{question}
 use Rattle.redraw.specs.Orders.{orders_of_word}
-use Rattle.redraw.specs.Redraws.{drawn, in_orders, redrawn, Redraws}
+use Rattle.redraw.specs.Redraws.{OneCost, drawn, in_orders, redrawn, Redraws}
 use Rattle.redraw.specs.declared.redrawn.RedrawFault.{RedrawFault}
 use Rattle.redraw.specs.declared.redrawn.Redrawn.{Redrawn}
 use Rattle.redraw.proofs.Asking.{lawful, searchable}
@@ -42,12 +43,19 @@ module _ (b : Below) (start : ℕ) (next : ℕ → ℕ → ℕ → ℕ) (st : St
   answers_best (Ok found) least = least_best found.turned found.cost least
   answers_best (Err fault) least = tt
 
--- two that are best cost the same
-one_cost : (start : ℕ) (next : ℕ → ℕ → ℕ → ℕ) (st : State) (r s : Result Redrawn RedrawFault)
-    → IfOk r (λ r. IsBest start next st r.orders r.cost) → IfOk s (λ r. IsBest start next st r.orders r.cost) → IfOk r (λ r. IfOk s (λ other. r.cost ≡ other.cost))
-one_cost start next st (Ok r) (Ok s) p q = omega (arith, p.least s.orders s.cost q.lawful q.costs, q.least r.orders r.cost p.lawful p.costs)
-one_cost start next st (Ok r) (Err f) p q = tt
-one_cost start next st (Err e) s p q = tt
+-- one that is best costs what another does
+as_cheap : (start : ℕ) (next : ℕ → ℕ → ℕ → ℕ) (st : State) (r : Redrawn) (other : Result Redrawn RedrawFault)
+    → IsBest start next st r.orders r.cost → IfOk other (λ other. IsBest start next st other.orders other.cost) → IfOk other (λ other. other.cost ≡ r.cost)
+as_cheap start next st r (Ok other) p q = omega (arith, p.least other.orders other.cost q.lawful q.costs, q.least r.orders r.cost p.lawful p.costs)
+as_cheap start next st r (Err fault) p q = tt
+
+-- so one that is best costs what all do
+one_cost : (start : ℕ) (next : ℕ → ℕ → ℕ → ℕ) (st : State) (r : Result Redrawn RedrawFault)
+    → IfOk r (λ r. IsBest start next st r.orders r.cost)
+    → ((capacity budget : ℕ) (places : List ℕ) → IfOk (redrawn start next st capacity budget places) (λ other. IsBest start next st other.orders other.cost))
+    → IfOk r (λ r. OneCost start next st r.cost)
+one_cost start next st (Ok r) best all = λ capacity budget places. as_cheap start next st r (redrawn start next st capacity budget places) best (all capacity budget places)
+one_cost start next st (Err fault) best all = tt
 
 some_ok : (st : State) (r : Result Found SearchFault) → IsOk r → IsOk (in_orders st r)
 some_ok st (Ok found) ok = refl
@@ -67,8 +75,9 @@ module _ (b : Below) where
       (finds (question start next st) (runs_searchable start next st cost_keeps can) capacity budget places)
 
   pub redraws_one_cost : FindsLeast → RedrawsOneCost
-  redraws_one_cost finds start next st cost_keeps can capacity budget places other_capacity other_budget other_places =
-      one_cost start next st _ _ (redraws_best finds start next st cost_keeps can capacity budget places) (redraws_best finds start next st cost_keeps can other_capacity other_budget other_places)
+  redraws_one_cost finds start next st cost_keeps can capacity budget places =
+      let all = redraws_best finds start next st cost_keeps can in
+      one_cost start next st (redrawn start next st capacity budget places) (all capacity budget places) all
 
   pub redraws_with_room : FindsWithRoom → RedrawsWithRoom
   unfolding drawn redrawn

@@ -20,17 +20,19 @@ use Rattle.redraw.specs.Orders.{orders_of}
 abbrev pub numbers_of : Times → Numbers
 numbers_of t s i = tick_of t (at s i)
 
--- whether the first in force leaves a meeting before the second enters: whether its following stop is entered earlier than the second's
+-- whether the first in force leaves a meeting before the second enters: whether its following stop
+-- is entered earlier than the second's
 abbrev pub leaves_before : State → Numbers → ℕ → Bool
 leaves_before st e j =
     let w = wait_under (meeting_at (meetings_on st) j) (first_at st.firsts j) in
     nat_lt (number e w.awaited) (number e w.second)
 
--- whether a meeting, with its bit, is undecided, and it does not
+-- whether a meeting, given with its bit, is undecided, and the first in force does not leave it
+-- before the second enters
 abbrev pub violates : State → ℕ → Numbers → ℕ × ℕ → Bool
 violates st decided e p = not (bit decided p.0) && not (leaves_before st e p.1)
 
--- the lowest such open meeting, by its bit
+-- the bit of the lowest such open meeting
 abbrev pub lowest : State → ℕ → Numbers → Option ℕ
 lowest st decided e = position (violates st decided e) (enumerate_from 0 (open_meetings st))
 
@@ -47,8 +49,14 @@ module _ (start : ℕ) (next : ℕ → ℕ → ℕ → ℕ) (st : State) where
 
   -- with the undecided open meetings left out
   unfoldable pub finding : (decided turned : ℕ) → Finding
-  finding decided turned = let c = scene_under st (orders_of st decided turned) in found_at c decided (entry_ticks c (count_on st))
+  finding decided turned =
+      let c = scene_under st (orders_of st decided turned) in
+      found_at c decided (entry_ticks c (count_on st))
 
   -- what is asked of the search: the open meetings, and the cost in force
   abbrev pub question : Question
-  question = record { count = length (open_meetings st); start = unwrap_or (cost_of start next st st.firsts) 0; finding = finding }
+  question = record {
+    count = length (open_meetings st);
+    start = unwrap_or (cost_of start next st st.firsts) 0;
+    finding = finding;
+  }

@@ -1,5 +1,5 @@
 // The open meetings of a run.
-ghost use Rattle.std.specs.Prelude.{◌≡◌, ◌<◌, ◌≤◌, ◌↔◌, if◌then◌else◌, length, IfSome, IsSome};
+ghost use Rattle.std.specs.Prelude.{◌≡◌, ◌<◌, ◌≤◌, ◌↔◌, length, IfSome, IsSome};
 ghost use Rattle.meetings.specs.declared.meet.TheConstants.{MOST_MEETINGS};
 ghost use Rattle.floor.specs.Words.{bit as bit_of};
 ghost use Rattle.run.specs.Lawful.{first_at};
@@ -7,7 +7,8 @@ ghost use Rattle.run.specs.Opens.{open_meetings};
 ghost use Rattle.run.specs.Sound.{RunsSoundly};
 ghost use Rattle.run.specs.State.{meetings_on};
 ghost use Rattle.redraw.specs.declared.finder.TheConstants.{MOST_OPEN};
-ghost use Rattle.redraw.specs.Nodes.{leaves_before as leaves_first, lowest as lowest_of, numbers_of, violates as violates_at};
+ghost use Rattle.redraw.specs.Nodes.{leaves_before as leaves_first, lowest as lowest_of};
+ghost use Rattle.redraw.specs.Nodes.{numbers_of, violates as violates_at};
 ghost use Rattle.redraw.specs.Orders.{KeepsClosed, first_or_turned, orders_of, orders_of_word};
 
 use crate::finder::MOST_OPEN;
@@ -126,16 +127,19 @@ impl<'a> OpenMeetings<'a> {
         }
     }
 
-    // Whether a meeting, with its bit, is undecided, and it does not.
+    // Whether a meeting, given with its bit, is undecided, and the first in force does not leave it
+    // before the second enters.
     fn violates(&self, decided: u64, timetable: &Timetable, bit: usize, meeting: usize) -> bool
         requires bit { bit < 64 }
         requires meeting { meeting < length self.now.driven.now.firsts }
-        ensures { result ≡ violates_at self.now.driven.now decided (numbers_of timetable.now) (bit, meeting) }
+        ensures { result
+            ≡ violates_at self.now.driven.now decided (numbers_of timetable.now) (bit, meeting) }
     {
         !has_bit(decided, bit) && !self.leaves_before(timetable, meeting)
     }
 
-    // The lowest such open meeting, by its bit.
+    // The bit of the lowest undecided open meeting that the first in force does not leave before the
+    // second enters; none, if there is no such meeting.
     pub(crate) fn lowest(&self, decided: u64, timetable: &Timetable) -> Option<u32>
         ensures { result ≡ lowest_of self.now.driven.now decided (numbers_of timetable.now) }
     {

@@ -15,7 +15,8 @@ use run::laws::runs_stand;
 use search::finding::Finding;
 use search::problem::Problem;
 
-// The open meetings of a run, with a cost. The orders of the last node and the timetable are kept, so that a node neither allocates nor copies.
+// The open meetings of a run, with a cost. The orders of the last node and the timetable are kept,
+// so that a node neither allocates nor copies.
 #[derive(Drop)]
 pub(crate) struct Redraw<'a, C: Cost> {
     opens: &'a OpenMeetings<'a>,
@@ -23,15 +24,21 @@ pub(crate) struct Redraw<'a, C: Cost> {
     orders: ArrayVec<Option<First>, MOST_MEETINGS>,
     timetable: Timetable,
     start: u64,
-    ghost closed: { KeepsClosed opens.now.driven.now orders.items } by { keeps_closed_prop opens.now.driven.now orders.items },
-    ghost started: { start ≡ (question_of (C.start cost.now) (C.next cost.now) opens.now.driven.now).start },
-    ghost searchable: { IsSearchable (question_of (C.start cost.now) (C.next cost.now) opens.now.driven.now) } by { searchable_prop (question_of (C.start cost.now) (C.next cost.now) opens.now.driven.now) },
+    ghost closed: { KeepsClosed opens.now.driven.now orders.items } by { keeps_closed_prop
+        opens.now.driven.now orders.items },
+    ghost started: { start
+        ≡ (question_of (C.start cost.now) (C.next cost.now) opens.now.driven.now).start },
+    ghost searchable: { IsSearchable (question_of (C.start cost.now) (C.next cost.now)
+        opens.now.driven.now) } by { searchable_prop (question_of
+            (C.start cost.now) (C.next cost.now) opens.now.driven.now) },
 }
 
 impl<'a, C: Cost> Redraw<'a, C> {
     pub(crate) fn new(opens: &'a OpenMeetings<'a>, cost: &'a C) -> Redraw<'a, C>
         requires { RunsSoundly opens.now.driven.now }
-        ensures { question_of (C.start result.cost.now) (C.next result.cost.now) result.opens.now.driven.now ≡ question_of (C.start cost.now) (C.next cost.now) opens.now.driven.now }
+        ensures { question_of (C.start result.cost.now) (C.next result.cost.now)
+            result.opens.now.driven.now
+            ≡ question_of (C.start cost.now) (C.next cost.now) opens.now.driven.now }
     {
         redraws_stand();
         let mut timetable = Timetable::new();
@@ -48,7 +55,8 @@ impl<'a, C: Cost> Redraw<'a, C> {
 }
 
 impl<C: Cost> Problem for Redraw<'_, C> {
-    ghost question = { λ redraw. question_of (C.start redraw.cost.now) (C.next redraw.cost.now) redraw.opens.now.driven.now };
+    ghost question = { λ redraw. question_of (C.start redraw.cost.now) (C.next redraw.cost.now)
+        redraw.opens.now.driven.now };
 
     fn start(&self) -> u64 {
         self.start

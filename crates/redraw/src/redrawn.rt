@@ -9,7 +9,8 @@ use refusals::Refusal;
 use search::found::SearchFault;
 use std::marker::Model;
 
-/// Passing orders that leave no meeting out, in memory of their own: nothing is allocated for them. A clause sees who goes first at each meeting.
+/// Passing orders that leave no meeting out, in memory of their own: nothing is allocated for them.
+/// A clause sees who goes first at each meeting.
 #[derive(Drop)]
 pub struct CompleteOrders {
     firsts: [First; MOST_MEETINGS],
@@ -75,7 +76,8 @@ pub enum RedrawFault {
     BudgetSpent { taken: u32 },
 }
 
-// The conversions are written out, since derived ones (`thiserror`) have no clause that says what comes of each fault.
+// The conversions are written out, since derived ones (`thiserror`) have no clause that says what
+// comes of each fault.
 impl From<SearchFault> for RedrawFault {
     ghost from_gives = { λ e r. r ≡ from_search e };
 

@@ -3,12 +3,13 @@ ghost use Rattle.std.specs.Prelude.{◌≡◌, IfOk};
 
 use crate::finder::find_orders;
 use crate::redrawn::{RedrawFault, Redrawn};
-use costs::cost::Cost;
+use costs::cost::{Cost, total};
 use costs::due::Due;
 use costs::figures::FIGURES;
 use costs::last::Last;
 use costs::sum::Sum;
 use costs::weight::Weight;
+use floor::timetable::Timetable;
 use lists::dive::Dive;
 use lists::node::Node;
 use lists::node_heap::NodeHeap;
@@ -19,7 +20,8 @@ use run::run::{Driven, Run};
 use std::alloc::Global;
 use std::test::Fail;
 
-// Shuttle 0: place 1 at tick 0, 5 at 1, 2 at 2. Shuttle 1: 3 at 0, 5 at 3, 4 at 4. One meeting, at place 5.
+// Shuttle 0: place 1 at tick 0, 5 at 1, 2 at 2. Shuttle 1: 3 at 0, 5 at 3, 4 at 4. One meeting, at
+// place 5.
 const ONE_MEETING: &[u8] =
     b"\x00\x02\x00\x00\x00\x0c\x00\x03\x00\x18\x00\x03\x00\x01\x00\x00\x00\x05\x00\x01\x00\x02\x00\x02\x00\x03\x00\x00\x00\x05\x00\x03\x00\x04\x00\x04";
 
@@ -27,13 +29,22 @@ const ONE_MEETING: &[u8] =
 const TABLE: &[u8] =
     b"\x00\x02\x00\x01\x00\x0e\x00\x03\x00\x1a\x00\x03\x00\x05\x00\x01\x00\x00\x00\x05\x00\x01\x00\x02\x00\x02\x00\x03\x00\x00\x00\x05\x00\x03\x00\x04\x00\x04";
 
-// Shuttle 0: 1 at 0, 5 at 1, 6 at 2, 2 at 3. Shuttle 1: 3 at 0, 6 at 5, 5 at 6, 4 at 7. Two meetings, which the shuttles pass in opposite order.
+// Shuttle 0: 1 at 0, 5 at 1, 6 at 2, 2 at 3. Shuttle 1: 3 at 0, 6 at 5, 5 at 6, 4 at 7. Two
+// meetings, which the shuttles pass in opposite order.
 const TWO_MEETINGS: &[u8] =
     b"\x00\x02\x00\x00\x00\x0c\x00\x04\x00\x1c\x00\x04\x00\x01\x00\x00\x00\x05\x00\x01\x00\x06\x00\x02\x00\x02\x00\x03\x00\x03\x00\x00\x00\x06\x00\x05\x00\x05\x00\x06\x00\x04\x00\x07";
 
-// Shuttle 0 goes to and fro between places 5 and 6, and is gone when shuttle 1 does so: 72 meetings.
+// Shuttle 0 goes to and fro between places 5 and 6, and is gone when shuttle 1 does so: 72
+// meetings.
 const MANY_MEETINGS: &[u8] =
     b"\x00\x02\x00\x00\x00\x0c\x00\x0e\x00\x44\x00\x0e\x00\x01\x00\x00\x00\x05\x00\x01\x00\x06\x00\x02\x00\x05\x00\x03\x00\x06\x00\x04\x00\x05\x00\x05\x00\x06\x00\x06\x00\x05\x00\x07\x00\x06\x00\x08\x00\x05\x00\x09\x00\x06\x00\x0a\x00\x05\x00\x0b\x00\x06\x00\x0c\x00\x02\x00\x0d\x00\x03\x00\x00\x00\x05\x00\x14\x00\x06\x00\x15\x00\x05\x00\x16\x00\x06\x00\x17\x00\x05\x00\x18\x00\x06\x00\x19\x00\x05\x00\x1a\x00\x06\x00\x1b\x00\x05\x00\x1c\x00\x06\x00\x1d\x00\x05\x00\x1e\x00\x06\x00\x1f\x00\x04\x00\x20";
+
+// What the orders in force cost.
+fn cost_in_force<C: Cost>(run: &Run, cost: &C) -> Option<u64> {
+    let mut timetable = Timetable::new();
+    run.driven()?.expected(&mut timetable);
+    Some(total(cost, timetable.arrivals()))
+}
 
 // What is redrawn: the cost, the nodes taken, and at how many meetings shuttle 1 goes first.
 fn redraw<C: Cost, L: WaitingList>(
@@ -108,14 +119,29 @@ fn open_held(alloc: Global, plan: &[u8]) -> Result<Run, Fail> {
 }
 
 #[test]
+fn costs_in_force(rt: HostRuntime) -> Result<(), Fail> {
+    let run = open_held(rt.alloc(), ONE_MEETING)?;
+    assert!(rt; cost_in_force(&run, &Sum) == Some(16));
+    let run = open_held(rt.alloc(), TWO_MEETINGS)?;
+    assert!(rt; cost_in_force(&run, &Sum) == Some(19));
+    Ok(())
+}
+
+#[test]
 fn one_meeting(rt: HostRuntime) -> Result<(), Fail> {
     let run = open(rt.alloc(), ONE_MEETING)?;
-    assert_eq!(rt; by_heap(&run, &Sum, 8, 100), Some(Ok((6, 3, 0))));
+    assert!(rt; by_heap(&run, &Sum, 8, 100) == Some(Ok((6, 3, 0))));
     let run = open_held(rt.alloc(), ONE_MEETING)?;
-    assert_eq!(rt; by_heap(&run, &Sum, 8, 100), Some(Ok((9, 3, 1))));
-    assert_eq!(rt; by_stack(&run, &Sum), Some(Ok((9, 3, 1))));
-    assert_eq!(rt; by_dive(&run, &Sum), Some(Ok((9, 3, 1))));
-    assert_eq!(rt; by_heap(&run, &Last, 8, 100), Some(Ok((7, 3, 1))));
+    assert!(rt; by_heap(&run, &Sum, 8, 100) == Some(Ok((9, 3, 1))));
+    assert!(rt; by_stack(&run, &Sum) == Some(Ok((9, 3, 1))));
+    assert!(rt; by_dive(&run, &Sum) == Some(Ok((9, 3, 1))));
+    Ok(())
+}
+
+#[test]
+fn other_costs(rt: HostRuntime) -> Result<(), Fail> {
+    let run = open_held(rt.alloc(), ONE_MEETING)?;
+    assert!(rt; by_heap(&run, &Last, 8, 100) == Some(Ok((7, 3, 1))));
     let mut ticks = [0; FIGURES];
     ticks[0] = 2;
     ticks[1] = 4;
@@ -125,7 +151,7 @@ fn one_meeting(rt: HostRuntime) -> Result<(), Fail> {
         ticks,
         cost: Weight { weights, cost: Sum },
     };
-    assert_eq!(rt; by_heap(&run, &late, 8, 100), Some(Ok((15, 3, 1))));
+    assert!(rt; by_heap(&run, &late, 8, 100) == Some(Ok((15, 3, 1))));
     Ok(())
 }
 
@@ -133,13 +159,13 @@ fn one_meeting(rt: HostRuntime) -> Result<(), Fail> {
 fn refusals(rt: HostRuntime) -> Result<(), Fail> {
     let run = open_held(rt.alloc(), ONE_MEETING)?;
     let spent = RedrawFault::BudgetSpent { taken: 2 };
-    assert_eq!(rt; by_heap(&run, &Sum, 8, 2), Some(Err(spent)));
+    assert!(rt; by_heap(&run, &Sum, 8, 2) == Some(Err(spent)));
     let full = RedrawFault::ListFull { taken: 1 };
-    assert_eq!(rt; by_heap(&run, &Sum, 1, 100), Some(Err(full)));
+    assert!(rt; by_heap(&run, &Sum, 1, 100) == Some(Err(full)));
     let none_taken = RedrawFault::BudgetSpent { taken: 0 };
-    assert_eq!(rt; by_heap(&run, &Sum, 8, 0), Some(Err(none_taken)));
+    assert!(rt; by_heap(&run, &Sum, 8, 0) == Some(Err(none_taken)));
     let no_room = RedrawFault::ListFull { taken: 0 };
-    assert_eq!(rt; by_heap(&run, &Sum, 0, 0), Some(Err(no_room)));
+    assert!(rt; by_heap(&run, &Sum, 0, 0) == Some(Err(no_room)));
     Ok(())
 }
 
@@ -148,18 +174,28 @@ fn none_open(rt: HostRuntime) -> Result<(), Fail> {
     let mut run = open(rt.alloc(), ONE_MEETING)?;
     run.tick(0).ok().ok_or("a good tick")?;
     run.hold(0, 5).ok().ok_or("a good hold")?;
-    assert_eq!(rt; by_heap(&run, &Sum, 8, 100), Some(Ok((14, 1, 0))));
+    assert!(rt; by_heap(&run, &Sum, 8, 100) == Some(Ok((14, 1, 0))));
     let run = open_held(rt.alloc(), TABLE)?;
-    assert_eq!(rt; by_heap(&run, &Sum, 1, 1), Some(Ok((16, 1, 0))));
+    assert!(rt; by_heap(&run, &Sum, 1, 1) == Some(Ok((16, 1, 0))));
+    Ok(())
+}
+
+// Either of the two meetings closes a ring where it is turned alone.
+#[test]
+fn rings(rt: HostRuntime) -> Result<(), Fail> {
+    let run = open_held(rt.alloc(), TWO_MEETINGS)?;
+    assert!(rt; !run.is_lawful(&[First::Other, First::Lower]));
+    assert!(rt; !run.is_lawful(&[First::Lower, First::Other]));
+    assert!(rt; run.is_lawful(&[First::Other, First::Other]));
     Ok(())
 }
 
 #[test]
 fn two_meetings(rt: HostRuntime) -> Result<(), Fail> {
     let run = open_held(rt.alloc(), TWO_MEETINGS)?;
-    assert_eq!(rt; by_heap(&run, &Sum, 8, 100), Some(Ok((11, 7, 2))));
-    assert_eq!(rt; by_stack(&run, &Sum), Some(Ok((11, 5, 2))));
-    assert_eq!(rt; by_dive(&run, &Sum), Some(Ok((11, 5, 2))));
+    assert!(rt; by_heap(&run, &Sum, 8, 100) == Some(Ok((11, 7, 2))));
+    assert!(rt; by_stack(&run, &Sum) == Some(Ok((11, 5, 2))));
+    assert!(rt; by_dive(&run, &Sum) == Some(Ok((11, 5, 2))));
     let driven = run.driven().ok_or("a run with a plan")?;
     let mut memory = [Node::default(); 8];
     let mut other = [Node::default(); 3];
@@ -169,8 +205,8 @@ fn two_meetings(rt: HostRuntime) -> Result<(), Fail> {
         &mut NodeHeap::new(&mut memory),
         &mut Stack::new(&mut other),
     );
-    assert_eq!(rt; first.map(|redrawn| redrawn.cost), Ok(11));
-    assert_eq!(rt; second.map(|redrawn| redrawn.cost), Ok(11));
+    assert!(rt; first.is_ok_and(|redrawn| redrawn.cost == 11));
+    assert!(rt; second.is_ok_and(|redrawn| redrawn.cost == 11));
     Ok(())
 }
 
@@ -182,7 +218,7 @@ fn too_many_open(rt: HostRuntime) -> Result<(), Fail> {
     let put = list.put(Node::default());
     assert!(rt; put.is_ok());
     let fault = Some(Err(RedrawFault::TooManyOpen));
-    assert_eq!(rt; redraw(&run, &Sum, &mut list, 100), fault);
+    assert!(rt; redraw(&run, &Sum, &mut list, 100) == fault);
     assert_eq!(rt; list.len(), 1);
     Ok(())
 }

@@ -9,14 +9,16 @@ use Rattle.search.specs.Decisions.{Agrees}
 use Rattle.search.specs.declared.finding.Finding.{Finding}
 use Rattle.search.specs.declared.finding.Finding.TheVariants.{Ring, Done, Branch}
 
--- how many meetings are open, the cost in force, and what is found where some meetings are decided, and some of those turned
+-- how many meetings are open, the cost in force, and what is found where some meetings are decided,
+-- and some of those turned
 pub record Question : Type 0 where
   pub count : ℕ
   pub start : ℕ
   pub finding : (decided turned : ℕ) → Finding
 
 module _ (q : Question) where
-  -- Just the meetings of a word may be turned, and that costs so much: this is found where all are decided.
+  -- Just the meetings of a word may be turned, and that costs so much: this is found where all are
+  -- decided.
   abbrev pub Costs : (word cost : ℕ) → Type 0
   Costs word cost = (word < 2 ^ q.count) × (q.finding (2 ^ q.count - 1) word ≡ Done cost)
 
@@ -37,15 +39,22 @@ module _ (q : Question) where
 
   -- What is found at a node costs no more than any word that agrees with it.
   abbrev pub FindsNoMore : Type 0
-  FindsNoMore = (decided turned word cost : ℕ) → IsNode decided turned → Costs word cost → Agrees word decided turned → NoMoreThan cost (q.finding decided turned)
+  FindsNoMore =
+      (decided turned word cost : ℕ)
+      → IsNode decided turned → Costs word cost → Agrees word decided turned
+      → NoMoreThan cost (q.finding decided turned)
 
   -- Done means that the meetings turned, with the rest as in force, cost just that.
   abbrev pub DoneCosts : Type 0
-  DoneCosts = (decided turned cost : ℕ) → IsNode decided turned → q.finding decided turned ≡ Done cost → Costs turned cost
+  DoneCosts =
+      (decided turned cost : ℕ) → IsNode decided turned
+      → q.finding decided turned ≡ Done cost → Costs turned cost
 
   -- A branch names an open meeting that is not decided.
   abbrev pub BranchNamesOpen : Type 0
-  BranchNamesOpen = (decided turned cost next : ℕ) → q.finding decided turned ≡ Branch cost next → (next < q.count) × (bit_at decided next ≡ 0)
+  BranchNamesOpen =
+      (decided turned cost next : ℕ) → q.finding decided turned ≡ Branch cost next
+      → (next < q.count) × (bit_at decided next ≡ 0)
 
   -- What a question keeps, so that a search finds its least cost.
   pub record IsSearchable : Type 0 where

@@ -36,7 +36,8 @@ fn with_bit(word: u64, bit: u32) -> u64
 
 // Puts one node and then another.
 fn put_both<L: WaitingList>(list: &mut L, first: Node, second: Node) -> Result<(), Full>
-    ensures each { PutsEach L.nodes L.moves L.capacity (first ∷ second ∷ []) result list.old list.new }
+    ensures each { PutsEach L.nodes L.moves L.capacity (first ∷ second ∷ [])
+        result list.old list.new }
     ensures size { L.capacity list.new ≡ L.capacity list.old }
 {
     list.put(first)?;
@@ -50,8 +51,11 @@ fn visit<P: Problem, L: WaitingList>(
     node: Node,
     best: &mut Best,
 ) -> Result<(), Full>
-    ensures best { best.new ≡ best_after best.old node (look_of (P.question problem.old) best.old.cost node) }
-    ensures each { PutsEach L.nodes L.moves L.capacity (children node (look_of (P.question problem.old) best.old.cost node)) result list.old list.new }
+    ensures best { best.new
+        ≡ best_after best.old node (look_of (P.question problem.old) best.old.cost node) }
+    ensures each { PutsEach L.nodes L.moves L.capacity
+        (children node (look_of (P.question problem.old) best.old.cost node))
+        result list.old list.new }
     ensures size { L.capacity list.new ≡ L.capacity list.old }
     ensures same { P.question problem.new ≡ P.question problem.old }
 {
@@ -79,14 +83,17 @@ fn visit<P: Problem, L: WaitingList>(
     }
 }
 
-// Takes nodes from the list and looks at them, until none waits or as many were taken as the budget says.
+// Takes nodes from the list and looks at them, until none waits or as many were taken as the budget
+// says.
 fn go_through<P: Problem, L: WaitingList>(
     problem: &mut P,
     list: &mut L,
     mut best: Best,
     budget: u32,
 ) -> Result<Found, SearchFault>
-    ensures course { ReachesCleared L.nodes L.moves (go_on (P.question problem.old) (L.capacity list.old) budget 0 best) result list.old list.new }
+    ensures course { ReachesCleared L.nodes L.moves
+        (go_on (P.question problem.old) (L.capacity list.old) budget 0 best)
+        result list.old list.new }
     ensures size { L.capacity list.new ≡ L.capacity list.old }
     ensures same { P.question problem.new ≡ P.question problem.old }
 {
@@ -112,7 +119,9 @@ fn start_from_root<P: Problem, L: WaitingList>(
     list: &mut L,
     budget: u32,
 ) -> Result<Found, SearchFault>
-    ensures course { ReachesCleared L.nodes L.moves (from_root (P.question problem.old) (L.capacity list.old) budget) result list.old list.new }
+    ensures course { ReachesCleared L.nodes L.moves
+        (from_root (P.question problem.old) (L.capacity list.old) budget)
+        result list.old list.new }
     ensures size { L.capacity list.new ≡ L.capacity list.old }
     ensures same { P.question problem.new ≡ P.question problem.old }
 {
@@ -131,16 +140,20 @@ fn start_from_root<P: Problem, L: WaitingList>(
     go_through(problem, list, best, budget)
 }
 
-/// The decisions that cost least of all that are allowed, unless the list or the budget is too small.
+/// The decisions that cost least of all that are allowed, unless the list or the budget is too
+/// small.
 pub fn search<P: Problem, L: WaitingList>(
     problem: &mut P,
     list: &mut L,
     budget: u32,
 ) -> Result<Found, SearchFault>
-    ensures course { Searches L.nodes L.moves (P.question problem.old) (L.capacity list.old) budget result list.old list.new }
+    ensures course { Searches L.nodes L.moves (P.question problem.old) (L.capacity list.old) budget
+        result list.old list.new }
     ensures least { IfOk result (λ found. Least (P.question problem.old) found.turned found.cost) }
-    // Of n meetings at most 2 ^ n nodes wait, in a list that puts only first n + 1; and less than twice 2 ^ n are taken.
-    ensures finds { HasRoom (P.question problem.old).count L.moves (L.capacity list.old) → 2 ^ ((P.question problem.old).count + 1) ≤ budget + 1 → IsOk result }
+    // Of n meetings at most 2 ^ n nodes wait, in a list that puts only first n + 1; and less than
+    // twice 2 ^ n are taken.
+    ensures finds { HasRoom (P.question problem.old).count L.moves (L.capacity list.old)
+        → 2 ^ ((P.question problem.old).count + 1) ≤ budget + 1 → IsOk result }
     ensures same { P.question problem.new ≡ P.question problem.old }
     ensures empty { L.nodes list.new ≡ [] }
     ensures size { L.capacity list.new ≡ L.capacity list.old }

@@ -11,7 +11,8 @@ pub(crate) struct Best {
 impl Best {
     // As an answer, after so many nodes.
     pub(crate) fn found(&self, taken: u32) -> Found
-        ensures { result ≡ record { turned = self.now.turned; cost = self.now.cost; taken = taken } }
+        ensures { result
+            ≡ record { turned = self.now.turned; cost = self.now.cost; taken = taken } }
     {
         Found {
             turned: self.turned,

@@ -10,7 +10,8 @@ pub mod problem;
 #[cfg(test)]
 mod tests;
 
-/// What the steps of a search find is least, wherever nodes are put; so all that find something find the same cost.
+/// What the steps of a search find is least, wherever nodes are put; so all that find something
+/// find the same cost.
 pub fn searches_stand()
     ensures least { FindsLeast }
     ensures same { FindsOneCost }

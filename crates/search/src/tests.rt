@@ -1,5 +1,6 @@
 // One meeting, searched by several lists. The expected values were worked out by hand.
-ghost use Rattle.std.specs.Prelude.{◌≡◌, ◌≤◌, length, IfOk, IsOk};
+ghost use Rattle.std.specs.Prelude.{◌≤◌, length, IsOk};
+ghost use Rattle.search.specs.Laws.{SameCost};
 
 use crate::best_first::search;
 use crate::finding::Finding;
@@ -47,7 +48,7 @@ fn both<P: Problem, L: WaitingList, M: WaitingList>(
     list: &mut L,
     other: &mut M,
 ) -> (Result<Found, SearchFault>, Result<Found, SearchFault>)
-    ensures { IfOk result.0 (λ found. IfOk result.1 (λ other. found.cost ≡ other.cost)) }
+    ensures { SameCost result.0 result.1 }
 {
     searches_stand();
     let first = search(problem, list, 100);

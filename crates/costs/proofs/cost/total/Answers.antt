@@ -2,6 +2,7 @@ use Rattle.std.proofs.Common.{rules, ◌≡◌, ◌∙◌, ℕ, ap, fold}
 use Rattle.std.specs.List.{enumerate_from}
 use Rattle.std.proofs.lemmas.Iterator.{YieldsList-from_slice}
 use Rattle.std.proofs.lemmas.Iterator.Consumers.{YieldsList-from_enumerate, fold_from_yields_List}
+use Rattle.costs.specs.Laws.{IsCost}
 use Rattle.costs.specs.Totals.{total}
 use Rattle.costs.proofs.Totals.{total_later}
 use Rattle.costs.proofs.cost.total.Given as given
@@ -20,4 +21,6 @@ returns-clause-least g c =
     let start = g.C.Cost.start c.args.cost.now in
     let next = g.C.Cost.next c.args.cost.now in
     let laws = g.met.C.Cost in
-    rw (sums g c) (total_later start next (laws.later c.args.cost.now) (laws.greater c.args.cost.now) (laws.fits c.args.cost.now) c.args.arrivals.now)
+    let cost = c.args.cost.now in
+    let keeps : IsCost start next = record { later = laws.later cost; greater = laws.greater cost; fits = laws.fits cost } in
+    rw (sums g c) (total_later start next keeps c.args.arrivals.now)

@@ -1,14 +1,12 @@
-use Rattle.std.proofs.Common.{◌≡◌, sym, subst, IfOk, Result}
+use Rattle.std.proofs.Common.{◌≡◌, sym, subst, Result}
+use Rattle.search.specs.Laws.{SameCost}
 use Rattle.search.specs.Reaching.{Searches}
 use Rattle.search.specs.declared.found.Found.{Found}
 use Rattle.search.specs.declared.found.SearchFault.{SearchFault}
 use Rattle.search.proofs.tests.both.Goals as goal
 
-abbrev Same : Result Found SearchFault → Result Found SearchFault → Type 0
-Same r s = IfOk r (λ found. IfOk s (λ other. found.cost ≡ other.cost))
-
-same_by : {r s t u : Result Found SearchFault} → r ≡ t → s ≡ u → Same t u → Same r s
-same_by {r} {s} {t} {u} p q h = subst (λ r. Same r s) (sym p) (subst (λ s. Same t s) (sym q) h)
+same_by : {r s t u : Result Found SearchFault} → r ≡ t → s ≡ u → SameCost t u → SameCost r s
+same_by {r} {s} {t} {u} p q h = subst (λ r. SameCost r s) (sym p) (subst (λ s. SameCost t s) (sym q) h)
 
 pub returns : goal.returns
 returns g c =

@@ -1,6 +1,6 @@
 use Rattle.std.proofs.Common.{◌≤◌, List, ℕ, length, ap, ◌∙◌, subst}
+use Rattle.costs.specs.Laws.{IsCost}
 use Rattle.costs.specs.Totals.{total}
-use Rattle.redraw.specs.Costs.{IsCost}
 use Rattle.redraw.specs.Laws.{CanRedraw}
 use Rattle.redraw.proofs.Evaluating.{cost_now}
 use Rattle.redraw.proofs.problem.Redraw.new.Goals as goal
