@@ -138,8 +138,8 @@ impl<'a> OpenMeetings<'a> {
         !has_bit(decided, bit) && !self.leaves_before(timetable, meeting)
     }
 
-    // The bit of the lowest undecided open meeting that the first in force does not leave before the
-    // second enters; none, if there is no such meeting.
+    // The bit of the lowest undecided open meeting that the first in force does not leave before
+    // the second enters; none, if there is no such meeting.
     pub(crate) fn lowest(&self, decided: u64, timetable: &Timetable) -> Option<u32>
         ensures { result ≡ lowest_of self.now.driven.now decided (numbers_of timetable.now) }
     {
