@@ -1,5 +1,5 @@
 // The search for the passing orders of a run that cost least.
-ghost use Rattle.std.specs.Prelude.{◌≡◌, ◌+◌, ◌^◌, ◌<◌, ◌≤◌, [], length, Err, IfOk, IsOk};
+ghost use Rattle.std.specs.Prelude.{◌≡◌, ◌+◌, ◌^◌, ◌<◌, ◌≤◌, ◌↔◌, [], length, Err, IfOk, IsOk, IsTrue};
 ghost use Rattle.run.specs.Opens.{open_meetings};
 ghost use Rattle.search.specs.Reaching.{HasRoom};
 ghost use Rattle.redraw.specs.declared.redrawn.RedrawFault.TheVariants.{TooManyOpen};
@@ -17,6 +17,13 @@ use search::best_first::search;
 
 /// With how many open meetings orders can be redrawn: as many as a word has bits.
 pub const MOST_OPEN: usize = 64;
+
+/// Whether few enough meetings are open for orders to be redrawn.
+pub fn can_redraw(driven: &Driven) -> bool
+    ensures { IsTrue result ↔ (length (open_meetings driven.now) ≤ MOST_OPEN) }
+{
+    OpenMeetings::new(driven).is_some()
+}
 
 /// The lawful passing orders that cost least, unless too many meetings are open, or the list or the
 /// budget is too small.

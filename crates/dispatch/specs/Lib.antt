@@ -1,0 +1,10 @@
+pub mod Agreement
+pub mod Carrying
+pub mod Costing
+pub mod Dispatch
+pub mod Law
+pub mod Lists
+pub mod Pockets
+pub mod Slips
+pub mod Tally
+pub mod Views
