@@ -1,127 +1,23 @@
 #!/usr/bin/env python3
 """Writes the cases of crates/search_cases: stdin (runs, and searches for their orders) and stdout (what has to be printed of each line).
 
-The expected text comes from the steps of the search below, on the runs of runs.py and over the plain lists of
+The expected text comes from the steps of the search in searches.py, on the runs of runs.py and over the plain lists of
 list_cases.py; nothing is shared with the crates. What is found is held to the run, with few open meetings to all orders
 that there are, and where a case states an answer by hand, to that too."""
 import copy, pathlib, random, sys
 
 sys.dont_write_bytecode = True
 from cost_cases import total
+from drawn import drawn_plan
 from list_cases import List
 from plan_cases import encode
-from runs import Run, entries_by_rule, waits
+from runs import Run
+from searches import FEW, MOST_OPEN, Ways, searched
 
 HERE = pathlib.Path(__file__).resolve().parent.parent / "crates" / "search_cases"
 PLACES = 1024  # of the memory that the program has for heaps and stacks
-MOST_OPEN = 64
-FEW = 8  # open meetings up to which all orders are tried
-SHORT = 40  # stops up to which the entry ticks of each node are worked out by the rule too
 COSTS = ("sum", "last", "due-sum", "weight-sum", "due-weight-sum", "due-last")
 LISTS = ("heap", "stack", "dive-heap", "dive-stack")
-
-
-class Ways:
-    """Entry ticks as longest ways through the unentered stops of a run, of which some open meetings are left out."""
-
-    def __init__(self, run):
-        self.run, self.open = run, run.open_meetings()
-        self.every = 2 ** len(self.open) - 1
-        stops = [(s, i) for s, p in enumerate(run.paths) for i in range(run.stops[s] + 1, len(p))]
-        self.at = {stop: v for v, stop in enumerate(stops)}
-        self.least = [1 + (run.holds[s] if i == run.stops[s] + 1 else 0) for s, i in stops]
-        closed = waits(run.met, "".join("-" if k in self.open else c for k, c in enumerate(run.orders)))
-        ahead = [[self.at[x] for x in [(s, i - 1)] + closed.get((s, i), []) if x in self.at] for s, i in stops]
-        self.behind = [[w for w, vs in enumerate(ahead) for u in vs if u == v] for v in range(len(stops))]
-        self.ahead = [len(vs) for vs in ahead]
-        # of each open meeting the stop waited for and the stop that waits, as in force and turned
-        self.waits, self.known = [], {}
-        for k in self.open:
-            s, i, r, j = run.met[k]
-            both = (self.at[s, i + 1], self.at[r, j]), (self.at[r, j + 1], self.at[s, i])
-            self.waits.append(both if run.orders[k] == "L" else both[::-1])
-
-    def orders(self, decided, turned):
-        """Orders by their letters, as in force or turned where decided, and left out where not."""
-        orders = list(self.run.orders)
-        for j, k in enumerate(self.open):
-            if not decided >> j & 1:
-                orders[k] = "-"
-            elif turned >> j & 1:
-                orders[k] = "LO"[orders[k] == "L"]
-        return "".join(orders)
-
-    def ticks(self, decided, turned):
-        """The entry ticks of the unentered stops; None for a ring."""
-        if (decided, turned) not in self.known:
-            self.known[decided, turned] = self.worked_out(decided, turned)
-        return self.known[decided, turned]
-
-    def worked_out(self, decided, turned):
-        """Each entry tick after all that its stop follows."""
-        ticks, ahead, behind = self.least[:], self.ahead[:], self.behind[:]
-        for j, both in enumerate(self.waits):
-            if decided >> j & 1:
-                awaited, second = both[turned >> j & 1]
-                behind[awaited] = behind[awaited] + [second]
-                ahead[second] += 1
-        ready = [v for v, n in enumerate(ahead) if n == 0]
-        for v in ready:
-            for w in behind[v]:
-                ticks[w] = max(ticks[w], ticks[v] + 1)
-                ahead[w] -= 1
-                if ahead[w] == 0:
-                    ready.append(w)
-        ticks = ticks if len(ready) == len(ticks) else None
-        if len(ahead) <= SHORT:
-            run = self.run
-            ruled = entries_by_rule(run.paths, run.stops, run.holds, waits(run.met, self.orders(decided, turned)))
-            assert ticks == (ruled and [ruled[x] for x in self.at])
-        return ticks
-
-    def arrivals(self, ticks):
-        last = [(s, len(p) - 1) for s, p in enumerate(self.run.paths)]
-        return [ticks[self.at[x]] if x in self.at else 0 for x in last]
-
-    def lawful(self):
-        """The arrivals under all lawful orders."""
-        found = [self.ticks(self.every, turned) for turned in range(self.every + 1)]
-        return [self.arrivals(ticks) for ticks in found if ticks is not None]
-
-    def violated(self, decided, ticks):
-        """The lowest undecided open meeting at which the first in force does not leave before the second enters."""
-        for j, ((leaves, enters), _) in enumerate(self.waits):
-            if not decided >> j & 1 and ticks[leaves] >= ticks[enters]:
-                return j
-        return None
-
-
-def searched(ways, price, held, budget):
-    """The search by its steps: cost, nodes taken and the word of those turned, or the refusal and nodes taken; then the longest row."""
-    cost, turned = price(ways.arrivals(ways.ticks(ways.every, 0))), 0
-    held.clear()
-    taken, longest = 0, 1
-    if not held.put((0, 0, 0)):
-        return ("no", 12, taken), 0
-    while held.length():
-        if taken == budget:
-            return ("no", 13, taken), longest
-        bound, decided, turns = held.take()
-        taken += 1
-        if bound >= cost:
-            continue
-        ticks = ways.ticks(decided, turns)
-        if ticks is None or price(ways.arrivals(ticks)) >= cost:
-            continue
-        bound, j = price(ways.arrivals(ticks)), ways.violated(decided, ticks)
-        if j is None:
-            cost, turned = bound, turns
-            continue
-        decided |= 1 << j
-        if not (held.put((bound, decided, turns)) and held.put((bound, decided, turns | 1 << j))):
-            return ("no", 12, taken), longest
-        longest = max(longest, held.length())
-    return ("R", cost, taken, turned), longest
 
 
 class State:
@@ -306,49 +202,6 @@ case("the meeting of number 66 is open alone", fresh(crowd + P_aside, [5]), "C s
 dice = random.Random(16)
 
 
-def route(kind, size):
-    """The places that a shuttle passes: some of a yard, a part of a lane in either direction, or a walk on a grid that never turns back."""
-    places = range(size)
-    if kind == "lane":
-        ends = sorted(dice.sample(range(size + 1), 2))
-        return list(places)[ends[0]:ends[1]][::dice.choice([1, 1, -1])]
-    beside = {a: [b for b in places if b != a] for a in places}
-    if kind == "grid":
-        beside = {(x, y): [(x + a, y + b) for a, b in ((0, 1), (1, 0), (0, -1), (-1, 0)) if x + a in places and y + b in places] for x in places for y in places}
-    walk = [dice.choice(list(beside))]
-    for _ in range(dice.randint(1, 2 * size)):
-        walk.append(dice.choice([b for b in beside[walk[-1]] if kind == "yard" or b not in walk[-2:]]))
-    return walk if kind == "yard" else [size * x + y for x, y in walk]
-
-
-def let_go(routes):
-    """Paths of shuttles that are let go along their routes one after another, and then move now and then into a place that was free at the tick before; so no two collide."""
-    paths = [[(route[0], 0)] for route in routes]
-    start = [dice.choice([0, 0, 3, 10, 25]) for _ in routes]
-    haste = [dice.choice([0.3, 0.6, 0.9, 1]) for _ in routes]
-    for now in range(1, 200):
-        taken = {path[-1][0] for path in paths}
-        for s in dice.sample(range(len(paths)), len(paths)):
-            following = routes[s][len(paths[s]):][:1]
-            if following and now > start[s] and dice.random() < haste[s] and following[0] not in taken:
-                paths[s].append((following[0], now))
-                taken.add(following[0])
-    return paths
-
-
-def drawn_plan(shuttles, kind, size):
-    """Paths and tables; most shuttles begin and end at places of their own."""
-    routes = [route(kind, size) for _ in range(shuttles)]
-    for s, places in enumerate(routes):
-        if dice.random() < 0.8 or places[0] in [r[0] for r in routes[:s]]:
-            places.insert(0, 1000 + s)
-        if dice.random() < 0.8:
-            places.append(2000 + s)
-    paths = let_go(routes)
-    met = sorted({a for p in paths for a, _ in p if a < 1000})
-    return paths, dice.sample(met, min(len(met), dice.choice([0, 0, 0, 1, 2])))
-
-
 def drawn_drive(run):
     """Ticks and holds of a run, in the end a hold."""
     n, lines = len(run.paths), []
@@ -369,7 +222,7 @@ def drawn_run(low, high, nodes, shuttles, sizes):
     """The first lines of a run with so many open meetings, at which a search takes no fewer nodes."""
     while True:
         kind = dice.choice(list(sizes))
-        paths, tables = drawn_plan(dice.choice(shuttles), kind, dice.choice(sizes[kind]))
+        paths, tables = drawn_plan(dice, dice.choice(shuttles), kind, dice.choice(sizes[kind]))
         trial = State()
         if trial.run.open(encode(paths, sorted(tables))) == "P":
             drive = drawn_drive(trial.run)
