@@ -374,6 +374,17 @@ fn open(
     Ok(())
 }
 
+// The list of calls, once.
+fn carry(
+    dispatcher: &mut Dispatcher,
+    calls: &mut [Call<'_>],
+    pockets: &mut [Option<Slip>],
+    witness: &mut Witness,
+) {
+    witness.seen.clear();
+    dispatcher.carry_all(calls, pockets, witness);
+}
+
 fn carry_out(
     rt: &HostRuntime,
     case: &mut Case,
@@ -389,8 +400,7 @@ fn carry_out(
     let memory = case.memory.as_mut_slice();
     let mut calls = read_calls(rt.alloc(), &case.tables, memory, words)?;
     for _ in 0..times {
-        witness.seen.clear();
-        dispatcher.carry_all(calls.as_mut_slice(), pockets, &mut witness);
+        carry(dispatcher, calls.as_mut_slice(), pockets, &mut witness);
     }
     for seen in &witness.seen {
         print_seen(rt, *seen)?;
