@@ -1,0 +1,5 @@
+pub mod Computed
+pub mod Deciding
+pub mod Drafting
+pub mod Following
+pub mod Rules

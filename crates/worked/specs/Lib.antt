@@ -1,0 +1,3 @@
+pub mod Costs
+pub mod Plans
+pub mod Table

@@ -1,0 +1,23 @@
+//! Plans that were worked by hand: what runs and drafts make of them, on the contract of a function that does nothing.
+#![tactic(auto)]
+
+ghost use Rattle.costs.specs.declared.last.Last.{Last};
+ghost use Rattle.costs.specs.declared.sum.Sum.{Sum};
+ghost use Rattle.dispatch.specs.Costing.{IsCostOf};
+ghost use Rattle.worked.specs.Costs.{by_sum, by_last};
+ghost use Rattle.worked.specs.Table.{WorkedPlans};
+
+use costs::cost::Cost;
+use costs::last::Last;
+use costs::sum::Sum;
+use heap::rows_stand;
+use lists::node::Node;
+
+/// The worked plans, by the costs `Sum` and `Last`.
+pub fn worked_plans_stand()
+    ensures plans { WorkedPlans }
+    ensures sum { (sum : Sum) → IsCostOf (⟦<Sum as Cost>⟧.start sum) (⟦<Sum as Cost>⟧.next sum) by_sum }
+    ensures last { (last : Last) → IsCostOf (⟦<Last as Cost>⟧.start last) (⟦<Last as Cost>⟧.next last) by_last }
+{
+    rows_stand::<Node>();
+}
