@@ -1,9 +1,12 @@
 -- The worked plans compute.
-use Rattle.std.specs.Prelude.{[], ◌∷◌}
+use Rattle.std.specs.Prelude.{List, [], ◌∷◌}
 use Rattle.std.proofs.Common.{refl}
+use Rattle.files.specs.declared.plan.Stop.{Stop}
 use Rattle.floor.specs.Open.{is_open_at}
 use Rattle.heap.specs.Laws.{RowsAreUnique}
+use Rattle.lists.specs.Lists.{HeapMoves, StackMoves}
 use Rattle.lists.specs.declared.node.Node.{Node}
+use Rattle.meetings.specs.Laws.{ClearLaw}
 use Rattle.meetings.specs.declared.meet.First.TheVariants.{Lower, Other}
 use Rattle.plans.specs.Refusals.{gives}
 use Rattle.redraw.specs.Costs.{cost_of}
@@ -12,13 +15,18 @@ use Rattle.redraw.specs.Redraws.{drawn, redrawn}
 use Rattle.traffic.specs.Ticks.{entry_ticks}
 use Rattle.worked.proofs.Drafting.{drafts, refuses}
 use Rattle.worked.proofs.Following.{heap_tested, stack_tested}
+use Rattle.worked.proofs.Kept.{p_kept, p_table_kept, q_kept}
 use Rattle.worked.specs.Costs.{by_sum}
 use Rattle.worked.specs.Plans.{held}
 use Rattle.worked.specs.Table.{WorkedPlans, to, p, p_held, p_moved, p_at_table, q_held}
 
-pub worked_plans : RowsAreUnique Node → WorkedPlans
+pub worked_plans :
+    RowsAreUnique Node → ((ps : List (List Stop)) → ClearLaw ps) → WorkedPlans HeapMoves StackMoves
 unfolding entry_ticks cost_of finding drawn redrawn is_open_at
-worked_plans unique = record {
+worked_plans unique clear = record {
+  p_kept = p_kept clear;
+  p_table_kept = p_table_kept clear;
+  q_kept = q_kept clear;
   fresh_arrivals = refl;
   fresh_cost = refl;
   fresh_by_heap =

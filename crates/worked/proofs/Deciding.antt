@@ -3,16 +3,17 @@ use Rattle.std.specs.Prelude.{◌≡◌, ℕ, zero, suc, ◌+◌, Bool, true, fa
 use Rattle.std.specs.List.{insert}
 use Rattle.std.proofs.Common.{refl, ap, sym, subst, ◌∙◌}
 use Rattle.heap.specs.Bounded.{Holding}
-use Rattle.lists.specs.Moves.{Move, Put, Refuse, Follows, Goes}
+use Rattle.lists.specs.Moves.{Put, Refuse, Follows, Goes}
 use Rattle.lists.specs.declared.node.Node.{Node}
 use Rattle.search.specs.Questions.{Question}
 use Rattle.search.specs.Steps.{Course, after, ends, children, best_after, look, put_each, go_on, searched}
 use Rattle.search.specs.declared.found.SearchFault.TheVariants.{Full}
+use Rattle.worked.specs.Plans.{Rule}
 
 abbrev pub rows : Holding Node → List Node
 rows h = h.row
 
-module _ (rule : Holding Node → Move Node → Holding Node → Type 0) where
+module _ (rule : Rule) where
   -- Two puts of a node into one row leave one row.
   abbrev pub Decides : Type 0
   Decides =

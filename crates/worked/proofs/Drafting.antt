@@ -13,7 +13,7 @@ use Rattle.dispatch.specs.Tally.{Tally, Draft, after, answer, answer_of, draft_o
 use Rattle.dispatch.specs.declared.answers.Answer.TheVariants.{Drafted}
 use Rattle.worked.proofs.Deciding.{one_answer}
 use Rattle.worked.proofs.Following.{Tested, followed, passes, moved_all}
-use Rattle.worked.specs.Plans.{Allows, Drafts, Refuses, empty, refused}
+use Rattle.worked.specs.Plans.{Rule, Allows, Drafts, Refuses, empty, refused}
 
 -- the moves of a draft's search pass a test, from an empty list to an empty list
 pub record Passes
@@ -23,7 +23,7 @@ pub record Passes
   pub end : moved_all (empty room) (drawn cost.start cost.next t.state room budget places).moves ≡ empty room
 
 module _
-    {rule : Holding Node → Move Node → Holding Node → Type 0} (tested : Tested rule)
+    {rule : Rule} (tested : Tested rule)
     (cost : Costing) (room budget : ℕ) (t : Tally) (places : List ℕ)
     (pass : Passes tested.test cost room budget t places) where
   allowed : Allows rule cost room budget t places (empty room) (empty room)

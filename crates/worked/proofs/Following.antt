@@ -11,6 +11,7 @@ use Rattle.lists.specs.Moves.{Move, Clear, Put, Refuse, Take, Follows, Goes}
 use Rattle.lists.specs.Nodes.{node_le}
 use Rattle.lists.specs.declared.node.Node.{Node}
 use Rattle.worked.proofs.Deciding.{Decides, rows}
+use Rattle.worked.specs.Plans.{Rule}
 use Rattle.worked.proofs.Rules.{heap_decides, stack_decides}
 
 -- whether a row ascends
@@ -50,7 +51,7 @@ within : (place n : ℕ) → nat_le place n ≡ true → place ≤ n
 within place n t = grind (arith, nat_tests)
 
 -- a rule that is decided by a test, and leaves one row after each put
-pub record Tested (rule : Holding Node → Move Node → Holding Node → Type 0) : Type 0 where
+pub record Tested (rule : Rule) : Type 0 where
   pub test : Holding Node → Move Node → Bool
   pub goes :
       (old : Holding Node) (move : Move Node) → test old move ≡ true
@@ -63,7 +64,7 @@ passes test old [] = true
 passes test old (move ∷ moves) = test old move && passes test (moved old move) moves
 
 pub followed :
-    {rule : Holding Node → Move Node → Holding Node → Type 0} (tested : Tested rule)
+    {rule : Rule} (tested : Tested rule)
     (old : Holding Node) (moves : List (Move Node)) → passes tested.test old moves ≡ true
     → Follows rows rule old moves (moved_all old moves)
 followed tested old [] t = refl

@@ -2,4 +2,5 @@ pub mod Computed
 pub mod Deciding
 pub mod Drafting
 pub mod Following
+pub mod Kept
 pub mod Rules

@@ -36,9 +36,19 @@ two_meetings =
     ∷ (stop 3 0 ∷ stop 6 5 ∷ stop 5 6 ∷ stop 4 7 ∷ [])
     ∷ []
 
--- a run of number 1, just opened, and after a hold of 5 ticks for shuttle 0
-abbrev pub opened : List (List Stop) → List ℕ → Tally
-opened paths tables = tally (plan_of paths tables) 1 []
+-- P; P with place 5 a table; and Q
+abbrev pub p_plan : Plan
+p_plan = plan_of one_meeting []
+
+abbrev pub p_plan_with_table : Plan
+p_plan_with_table = plan_of one_meeting (5 ∷ [])
+
+abbrev pub q_plan : Plan
+q_plan = plan_of two_meetings []
+
+-- a run of number 1 just after it is opened, and after a hold of 5 ticks for shuttle 0
+abbrev pub opened : Plan → Tally
+opened plan = tally plan 1 []
 
 abbrev pub held : Tally → Tally
 held t = after (Hold 0 5) t
@@ -65,10 +75,12 @@ refused (Err why) = refusal why
 abbrev pub empty : ℕ → Holding Node
 empty room = record { row = []; free = room }
 
+-- where a waiting list may put nodes, and what becomes of it
+abbrev pub Rule : Type 1
+Rule = Holding Node → Move Node → Holding Node → Type 0
+
 -- of a draft by a cost, and by a list of some rule with so much room
-module _
-    (rule : Holding Node → Move Node → Holding Node → Type 0)
-    (cost : Costing) (room budget : ℕ) (t : Tally) where
+module _ (rule : Rule) (cost : Costing) (room budget : ℕ) (t : Tally) where
   -- With its nodes at these places the search leads from one list to another as the rule allows.
   abbrev pub Allows : (places : List ℕ) → Holding Node → Holding Node → Type 0
   Allows places old new =

@@ -12,12 +12,18 @@ use costs::last::Last;
 use costs::sum::Sum;
 use heap::rows_stand;
 use lists::node::Node;
+use lists::node_heap::NodeHeap;
+use lists::stack::Stack;
+use lists::waiting::WaitingList;
+use meetings::laws::meetings_stand;
 
 /// The worked plans, by the costs `Sum` and `Last`.
 pub fn worked_plans_stand()
-    ensures plans { WorkedPlans }
+    ensures plans { WorkedPlans
+        ⟦<NodeHeap<'static> as WaitingList>⟧.moves ⟦<Stack<'static> as WaitingList>⟧.moves }
     ensures sum { (sum : Sum) → IsCostOf (⟦<Sum as Cost>⟧.start sum) (⟦<Sum as Cost>⟧.next sum) by_sum }
     ensures last { (last : Last) → IsCostOf (⟦<Last as Cost>⟧.start last) (⟦<Last as Cost>⟧.next last) by_last }
 {
     rows_stand::<Node>();
+    meetings_stand();
 }
