@@ -8,7 +8,7 @@ use Rattle.lists.specs.declared.node.Node.{Node}
 use Rattle.search.specs.Questions.{Question}
 use Rattle.search.specs.Steps.{Course, after, ends, children, best_after, look, put_each, go_on, searched}
 use Rattle.search.specs.declared.found.SearchFault.TheVariants.{Full}
-use Rattle.worked.specs.Plans.{Rule}
+use Rattle.worked.specs.Drafts.{Rule}
 
 abbrev pub rows : Holding Node → List Node
 rows h = h.row
@@ -31,11 +31,14 @@ module _ (rule : Rule) where
   abbrev One : (List Node → List ℕ → Course) → Type 0
   One go = (row : List Node) → OneFrom go row row
 
-  from_two : (go : List Node → List ℕ → Course) → One go → (row other : List Node) → row ≡ other → OneFrom go row other
+  from_two :
+      (go : List Node → List ℕ → Course) → One go → (row other : List Node) → row ≡ other
+      → OneFrom go row other
   from_two go one row other same = subst (λ o. OneFrom go row o) same (one row)
 
   -- a node is put at the first of the places, if there is room for it
-  abbrev put_if : (taken : ℕ) → (List Node → List ℕ → Course) → Node → List Node → Bool → List ℕ → Course
+  abbrev put_if :
+      (taken : ℕ) → (List Node → List ℕ → Course) → Node → List Node → Bool → List ℕ → Course
   put_if taken rest node row has places =
       if has
       then after (Put node (slice_index places 0))
@@ -45,7 +48,8 @@ module _ (rule : Rule) where
   module _ (decides : Decides) where
     put_one :
         (taken : ℕ) (rest : List Node → List ℕ → Course) (node : Node) → One rest
-        → (row : List Node) (has : Bool) (ps qs : List ℕ) (a b c d : Holding Node) → a.row ≡ row → c.row ≡ row
+        → (row : List Node) (has : Bool) (ps qs : List ℕ) (a b c d : Holding Node)
+        → a.row ≡ row → c.row ≡ row
         → Follows rows rule a (put_if taken rest node row has ps).moves b
         → Follows rows rule c (put_if taken rest node row has qs).moves d
         → (put_if taken rest node row has ps).answer ≡ (put_if taken rest node row has qs).answer
@@ -78,7 +82,8 @@ module _ (rule : Rule) where
         (go_on q room more (taken + 1) (best_after best node found))
         (goes_one q room more (taken + 1) (best_after best node found))
         row ps qs f.0 b h.0 d
-        (f.1.1 ∙ ap (λ (r : List Node). drop 1 r) ar) (h.1.1 ∙ ap (λ (r : List Node). drop 1 r) cr) f.2 h.2
+        (f.1.1 ∙ ap (λ (r : List Node). drop 1 r) ar)
+        (h.1.1 ∙ ap (λ (r : List Node). drop 1 r) cr) f.2 h.2
 
     pub one_answer :
         (q : Question) (room budget : ℕ) (ps qs : List ℕ) (a b c d : Holding Node)

@@ -1,4 +1,4 @@
--- Moves of a heap and of a stack that are followed by a test.
+-- Moves that a heap or a stack may make, by a test.
 use Rattle.std.specs.Prelude.{◌≡◌, ℕ, ◌≤◌, Bool, true, ◌&&◌, nat_le, ◌==◌, List, [], ◌∷◌, drop, length}
 use Rattle.std.specs.List.{AllByRecursion, insert}
 use Rattle.std.proofs.Common.{refl, arith, rules}
@@ -11,8 +11,8 @@ use Rattle.lists.specs.Moves.{Move, Clear, Put, Refuse, Take, Follows, Goes}
 use Rattle.lists.specs.Nodes.{node_le}
 use Rattle.lists.specs.declared.node.Node.{Node}
 use Rattle.worked.proofs.Deciding.{Decides, rows}
-use Rattle.worked.specs.Plans.{Rule}
 use Rattle.worked.proofs.Rules.{heap_decides, stack_decides}
+use Rattle.worked.specs.Drafts.{Rule}
 
 -- whether a row ascends
 abbrev no_later_than : Node → List Node → Bool
@@ -23,10 +23,12 @@ abbrev ascends : List Node → Bool
 ascends [] = true
 ascends (x ∷ xs) = no_later_than x xs && ascends xs
 
-both : (a b : Bool) → (a && b) ≡ true → (a ≡ true) × (b ≡ true)
+pub both : (a b : Bool) → (a && b) ≡ true → (a ≡ true) × (b ≡ true)
 both a b t = search rules
 
-none_earlier : (x : Node) (xs : List Node) → no_later_than x xs ≡ true → AllByRecursion (λ y. node_le x y ≡ true) xs
+none_earlier :
+    (x : Node) (xs : List Node) → no_later_than x xs ≡ true
+    → AllByRecursion (λ y. node_le x y ≡ true) xs
 none_earlier x [] t = tt
 none_earlier x (y ∷ ys) t =
     let p = both (node_le x y) (no_later_than x ys) t in (p.0, none_earlier x ys p.1)
@@ -78,7 +80,9 @@ heap_test old (Put x place) = nat_le place (length old.row) && ascends (insert o
 heap_test old (Refuse x) = true
 heap_test old Take = ascends old.row
 
-pub heap_goes : (old : Holding Node) (move : Move Node) → heap_test old move ≡ true → Goes rows HeapMoves old move (moved old move)
+pub heap_goes :
+    (old : Holding Node) (move : Move Node) → heap_test old move ≡ true
+    → Goes rows HeapMoves old move (moved old move)
 heap_goes old Clear t = (refl, refl)
 heap_goes old (Put x place) t =
     let p = both (nat_le place (length old.row)) (ascends (insert old.row place x)) t in
@@ -92,7 +96,9 @@ stack_test old (Put x place) = place == 0
 stack_test old (Refuse x) = true
 stack_test old Take = true
 
-pub stack_goes : (old : Holding Node) (move : Move Node) → stack_test old move ≡ true → Goes rows StackMoves old move (moved old move)
+pub stack_goes :
+    (old : Holding Node) (move : Move Node) → stack_test old move ≡ true
+    → Goes rows StackMoves old move (moved old move)
 stack_goes old Clear t = (refl, refl)
 stack_goes old (Put x place) t =
     let none : place ≡ 0 = grind (arith, nat_tests) in

@@ -10,10 +10,8 @@ use Rattle.meetings.specs.Meetings.{clashes, stay_in, NoClash}
 use Rattle.meetings.specs.declared.stays.Stay.{Stay}
 use Rattle.meetings.specs.Stays.{stays}
 use Rattle.plans.specs.Kept.{IsKept, plan_layout}
+use Rattle.worked.proofs.Following.{both}
 use Rattle.worked.specs.Plans.{plan_of, one_meeting, two_meetings, p_plan, p_plan_with_table, q_plan}
-
-both : (a b : Bool) → (a && b) ≡ true → (a ≡ true) × (b ≡ true)
-both a b t = search rules
 
 -- whether all numbers below n pass a test
 abbrev below : ℕ → (ℕ → Bool) → Bool
@@ -23,7 +21,8 @@ below (suc n) test = test n && below n test
 last_or_below :
     (n : ℕ) (test : ℕ → Bool) (i : ℕ) → test n ≡ true → (i < n → test i ≡ true) → i < suc n
     → (v : Bool) → nat_lt i n ≡ v → test i ≡ true
-last_or_below n test i last rest low true e = let less : i < n = grind (arith, nat_tests) in rest less
+last_or_below n test i last rest low true e =
+    let less : i < n = grind (arith, nat_tests) in rest less
 last_or_below n test i last rest low false e =
     let same : n ≡ i = grind (arith, nat_tests) in subst (λ k. test k ≡ true) same last
 
@@ -67,7 +66,9 @@ none_clash xs = below (length xs) (λ l. below l (λ k. not (clashes (stay_in xs
 
 no_clash : (xs : List Stay) → none_clash xs ≡ true → NoClash xs
 no_clash xs t k l k_low l_low =
-    let row = all_below (length xs) (λ l. below l (λ k. not (clashes (stay_in xs k) (stay_in xs l)))) t l l_low in
+    let row =
+    all_below (length xs) (λ l. below l (λ k. not (clashes (stay_in xs k) (stay_in xs l))))
+    t l l_low in
     let none : not (clashes (stay_in xs k) (stay_in xs l)) ≡ true =
     all_below l (λ k. not (clashes (stay_in xs k) (stay_in xs l))) row k k_low in
     search (rules, none)
@@ -75,7 +76,8 @@ no_clash xs t k l k_low l_low =
 module _ (clear : (ps : List (List Stop)) → ClearLaw ps) where
   kept :
       (ps : List (List Stop)) (tables : List ℕ) → Limits (plan_layout (plan_of ps tables))
-      → all_keep ps ≡ true → none_clash (stays ps) ≡ true → length (plan_of ps tables).meetings ≤ 256
+      → all_keep ps ≡ true → none_clash (stays ps) ≡ true
+      → length (plan_of ps tables).meetings ≤ 256
       → IsKept (plan_of ps tables)
   kept ps tables limits rules_kept clash few = record {
     limits = limits;

@@ -23,13 +23,16 @@ pub heap_decides : RowsAreUnique Node → Decides HeapMoves
 heap_decides unique a b c d node p q same f h =
     let one = IsPermutation-insert a.row p node in
     let two = IsPermutation-insert c.row q node in
-    let from : IsPermutation (node ∷ a.row) b.row = subst (λ r. IsPermutation (node ∷ a.row) r) (sym f.1.1) one in
+    let from : IsPermutation (node ∷ a.row) b.row =
+    subst (λ r. IsPermutation (node ∷ a.row) r) (sym f.1.1) one in
     let to : IsPermutation (node ∷ a.row) d.row =
     subst (λ r. IsPermutation (node ∷ r) d.row) (sym same)
     (subst (λ r. IsPermutation (node ∷ c.row) r) (sym h.1.1) two) in
     unique node_le nodes_order b.row d.row f.0.1 h.0.1
-    (IsPermutation-trans b.row (node ∷ a.row) d.row (IsPermutation-sym (node ∷ a.row) b.row from) to)
+    (IsPermutation-trans b.row (node ∷ a.row) d.row
+    (IsPermutation-sym (node ∷ a.row) b.row from) to)
 
 pub stack_decides : Decides StackMoves
 stack_decides a b c d node p q same f h =
-    ap (λ (l : Holding Node). l.row) f.0.1 ∙ ap (λ r. node ∷ r) same ∙ sym (ap (λ (l : Holding Node). l.row) h.0.1)
+    ap (λ (l : Holding Node). l.row) f.0.1 ∙ ap (λ r. node ∷ r) same
+    ∙ sym (ap (λ (l : Holding Node). l.row) h.0.1)

@@ -1,3 +1,5 @@
 pub mod Costs
+pub mod Drafts
 pub mod Plans
+pub mod Runs
 pub mod Table
