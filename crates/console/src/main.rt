@@ -1,11 +1,11 @@
-// Reads plan.bin in the folder it runs in and opens it; then carries out the lines of standard input, to its end, and prints the reply to each. A file that cannot be read counts as empty.
+// Reads plan.bin in the folder it runs in and opens it in a dispatcher; then carries out the lines of standard input, to its end, and prints the reply to each. A file that cannot be read counts as empty.
 #![tactic(auto)]
 
 ghost use Rattle.desk.specs.Replies.{Shown};
 
 use desk::{carry_out, refused};
+use dispatch::dispatcher::Dispatcher;
 use lines::replies::Reply;
-use run::run::Run;
 use sheet::sheet::SHEET_ROOM;
 use std::fs;
 use std::io::{self, BufRead, BufReader, Write};
@@ -24,10 +24,10 @@ fn print_reply(rt: &HostRuntime, reply: Reply, sheet: &[u8]) -> anyhow::Result<(
     Ok(())
 }
 
-fn open(rt: &HostRuntime, run: &mut Run) -> anyhow::Result<()> {
+fn open(rt: &HostRuntime, dispatcher: &mut Dispatcher) -> anyhow::Result<()> {
     let heap = rt.alloc();
     let bytes = fs::read(rt, "plan.bin").unwrap_or_else(|_| Vec::new(heap));
-    if let Err(why) = run.open(heap, RUN, bytes.as_slice()) {
+    if let Err(why) = dispatcher.open(heap, RUN, bytes.as_slice()) {
         let reply = refused(why);
         println!(rt; "{reply}")?;
     }
@@ -35,8 +35,8 @@ fn open(rt: &HostRuntime, run: &mut Run) -> anyhow::Result<()> {
 }
 
 fn work(rt: &HostRuntime) -> anyhow::Result<()> {
-    let mut run = Run::new();
-    open(rt, &mut run)?;
+    let mut dispatcher = Dispatcher::new();
+    open(rt, &mut dispatcher)?;
     let mut input = BufReader::new(rt.alloc(), rt.stdin())?;
     // `rt.lines` would give lines without their ends, which are judged here; so the loop reads, up to a count that no input reaches.
     for _ in 0..u64::MAX {
@@ -45,7 +45,7 @@ fn work(rt: &HostRuntime) -> anyhow::Result<()> {
             break;
         }
         let mut sheet = [0u8; SHEET_ROOM];
-        let reply = carry_out(&mut run, line.as_slice(), &mut sheet);
+        let reply = carry_out(&mut dispatcher, line.as_slice(), &mut sheet);
         print_reply(rt, reply, &sheet)?;
     }
     Ok(())

@@ -1,1 +1,4 @@
-pub mod Replying
+mod Agreeing
+mod Plain
+mod Carried
+mod Lawful

@@ -1,64 +1,96 @@
--- What the console prints for a line, and what the line does to the run.
-use Rattle.std.specs.Prelude.{◌≡◌, ℕ, ◌≤◌, List, length, take, Some, None, Ok, Err, Option, Result, ◌≢◌}
+-- What the console prints for a line, and what the line does to the dispatcher.
+use Rattle.std.specs.Prelude.{◌≡◌, ℕ, ◌≤◌, List, ◌++◌, length, take, Some, None, Ok, Err, Option, Result, ◌≢◌}
 use Rattle.std.specs.Option.{option_map}
 use Rattle.std.specs.Str.{IsAscii}
-use Rattle.floor.specs.Calls.{unless}
 use Rattle.lines.specs.declared.commands.Command.{Command}
-use Rattle.lines.specs.declared.commands.Command.TheVariants.{Hold, Tick}
 use Rattle.lines.specs.declared.commands.Command.TheVariants as command
 use Rattle.lines.specs.declared.replies.Reply.{Reply}
-use Rattle.lines.specs.declared.replies.Reply.TheVariants.{Held, Ticked, Sheet, Refused, NoMemory}
-use Rattle.plans.specs.Refusals.{number_of}
+use Rattle.lines.specs.declared.replies.Reply.TheVariants.{Sheet}
+use Rattle.plans.specs.declared.plan.Plan.{Plan}
+use Rattle.plans.specs.Kept.{IsKept}
 use Rattle.refusals.specs.declared.Refusal.{Refusal}
 use Rattle.refusals.specs.declared.Refusal.TheVariants.{ShortBuffer, BadLine}
-use Rattle.refusals.specs.Refusals.{refusal}
-use Rattle.run.specs.Calls.{on_plan, hold_refusal, held, tick_refusal, ticked, moved_by}
 use Rattle.run.specs.State.{State}
 use Rattle.sheet.specs.Written.{SheetWritten}
-
-abbrev pub by_number : Option ℕ → Reply
-by_number (Some number) = Refused number
-by_number None = NoMemory
-
-abbrev pub refused_by : Refusal → Reply
-refused_by why = by_number (number_of (refusal why))
+use Rattle.dispatch.specs.Agreement.{Agrees}
+use Rattle.dispatch.specs.Carrying.{after_list}
+use Rattle.dispatch.specs.Dispatch.{Dispatch}
+use Rattle.dispatch.specs.Law.{Stands}
+use Rattle.dispatch.specs.Tally.{Tally, Call, tally}
+use Rattle.desk.specs.Calls.{refused_by, LineMakes, reply_of}
 
 -- a reply that does not say that a buffer was too short
 abbrev pub IsNotShort : Reply → Type 0
 IsNotShort r = r ≢ refused_by ShortBuffer
-
--- the reply to a call, by why it is refused
-abbrev pub reply : Option Refusal → Reply → Reply
-reply None done = done
-reply (Some why) done = refused_by why
-
--- what comes of writing the sheet
-abbrev pub sheet_reply : Result ℕ Refusal → Reply
-sheet_reply (Ok bytes) = Sheet bytes
-sheet_reply (Err why) = refused_by why
-
--- The reply to a command on a run in a state, and what it leaves in the buffer for the sheet: only the sheet is written there.
-abbrev pub Replied : Command → Option State → Reply → List ℕ → List ℕ → Type 0
-Replied (Hold s ticks) st r old new = (r ≡ reply (on_plan (hold_refusal s ticks) st) Held) × (new ≡ old)
-Replied (Tick standing) st r old new = (r ≡ reply (on_plan (tick_refusal standing) st) (Ticked (moved_by standing st))) × (new ≡ old)
-Replied command.Sheet st r old new = (written : Result ℕ Refusal) × SheetWritten st written old new × (r ≡ sheet_reply written)
 
 -- a sheet that is shown is a text in the front of the buffer
 abbrev pub Shown : Reply → List ℕ → Type 0
 Shown (Sheet bytes) buffer = (bytes ≤ length buffer) × IsAscii (take bytes buffer)
 Shown r buffer = Unit {0}
 
--- the state after a command: a refused call changes nothing, nor does the sheet
-abbrev pub state_after : Command → Option State → Option State
-state_after (Hold s ticks) st = unless (on_plan (hold_refusal s ticks) st) (option_map (held s ticks) st) st
-state_after (Tick standing) st = unless (on_plan (tick_refusal standing) st) (option_map (ticked standing) st) st
-state_after command.Sheet st = st
+-- a reply that shows no sheet, and does not say that a buffer was too short
+abbrev pub IsPlain : Reply → Type 0
+IsPlain r = ((buffer : List ℕ) → Shown r buffer) × IsNotShort r
 
--- a line by what it is read as: a bad one is refused, and changes nothing
-abbrev pub RepliedToLine : Option Command → Option State → Reply → List ℕ → List ℕ → Type 0
-RepliedToLine None st r old new = (r ≡ refused_by BadLine) × (new ≡ old)
-RepliedToLine (Some command) st r old new = Replied command st r old new
+-- what comes of writing the sheet
+abbrev pub sheet_reply : Result ℕ Refusal → Reply
+sheet_reply (Ok bytes) = Sheet bytes
+sheet_reply (Err why) = refused_by why
 
-abbrev pub state_after_line : Option Command → Option State → Option State
-state_after_line None st = st
-state_after_line (Some command) st = state_after command st
+abbrev pub WritesSheet : Option State → Reply → List ℕ → List ℕ → Type 0
+WritesSheet st r old new =
+    (written : Result ℕ Refusal) × SheetWritten st written old new × (r ≡ sheet_reply written)
+
+abbrev pub SheetShown : Option Dispatch → Reply → List ℕ → List ℕ → Type 0
+SheetShown d r old new = WritesSheet (option_map (λ d. d.state) d) r old new
+
+-- The reply to a command that makes these calls from a tally, and what it leaves in the buffer for
+-- the sheet: only the sheet is written there.
+abbrev pub Replied : Command → Option Tally → List Call → Reply → List ℕ → List ℕ → Type 0
+Replied (command.Hold s ticks) o calls r old new = (Some r ≡ reply_of calls o) × (new ≡ old)
+Replied (command.Tick standing) o calls r old new = (Some r ≡ reply_of calls o) × (new ≡ old)
+Replied (command.Redraw budget) o calls r old new = (Some r ≡ reply_of calls o) × (new ≡ old)
+Replied command.Sheet o calls r old new = WritesSheet (option_map (λ t. t.state) o) r old new
+
+-- a line by what it is read as: a bad one is refused
+abbrev pub RepliedToLine :
+    Option Command → Option Tally → List Call → Reply → List ℕ → List ℕ → Type 0
+RepliedToLine None o calls r old new = (r ≡ refused_by BadLine) × (new ≡ old)
+RepliedToLine (Some command) o calls r old new = Replied command o calls r old new
+
+-- A line is carried out from a tally, or without a plan: its calls, the reply to them and the
+-- buffer, and what the dispatcher then agrees with.
+pub record Obeys
+    (line : Option Command) (r : Reply) (o : Option Tally) (new : Option Dispatch)
+    (sheet sheet_after : List ℕ)
+    : Type 0 where
+  pub calls : List Call
+  pub makes : LineMakes line o calls
+  pub reply : RepliedToLine line o calls r sheet sheet_after
+  pub agrees : Agrees new (after_list calls o)
+
+abbrev pub Obeyed :
+    Option Command → Reply → Option Dispatch → Option Dispatch → List ℕ → List ℕ → Type 0
+Obeyed line r old new sheet sheet_after =
+    (o : Option Tally) → Agrees old o → Obeys line r o new sheet sheet_after
+
+-- The same from the tally of a list of calls, and the law after it.
+pub record ObeysLawfully
+    (line : Option Command) (r : Reply) (plan : Plan) (number : ℕ) (before : List Call)
+    (new : Option Dispatch) (sheet sheet_after : List ℕ)
+    : Type 0 where
+  pub calls : List Call
+  pub makes : LineMakes line (Some (tally plan number before)) calls
+  pub reply : RepliedToLine line (Some (tally plan number before)) calls r sheet sheet_after
+  pub agrees : Agrees new (Some (tally plan number (before ++ calls)))
+  pub stands : Stands plan number (before ++ calls)
+
+-- A line, from any tally, from none, and from that of a list of calls before it.
+pub record CarriesOut
+    (line : Option Command) (r : Reply) (old new : Option Dispatch) (sheet sheet_after : List ℕ)
+    : Type 0 where
+  pub tallied : Obeyed line r old new sheet sheet_after
+  pub lawful :
+      (plan : Plan) (number : ℕ) (before : List Call)
+      → IsKept plan → Agrees old (Some (tally plan number before))
+      → ObeysLawfully line r plan number before new sheet sheet_after

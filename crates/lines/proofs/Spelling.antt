@@ -3,7 +3,7 @@ use Rattle.std.proofs.Common.{◌≡◌, ℕ, ◌^◌, ◌<◌, Bool, true, fals
 use Rattle.std.proofs.lemmas.List.{take_at, drop_at, take-append-drop, take_rest, length-take-le}
 use Rattle.std.proofs.lemmas.Bool.{le-leb, leb-true, lt-ltb, ltb-true, eqb-true, cond-true, and_from, and_parts}
 use Rattle.lines.specs.declared.commands.Command.{Command}
-use Rattle.lines.specs.declared.commands.Command.TheVariants.{Hold, Tick, Sheet}
+use Rattle.lines.specs.declared.commands.Command.TheVariants.{Hold, Tick, Redraw, Sheet}
 use Rattle.lines.specs.Numbers.{worth, Writes, count_of_digits, then, numeral_of, number_of, ended, one_number, two_numbers}
 use Rattle.lines.specs.Lines.{SpellsNumbers, Spells, ReadsExactly, command_from, command_of, command_text}
 use Rattle.lines.proofs.Digits.{count_le, count_digits, count_exact, decimal_writes}
@@ -105,21 +105,25 @@ begins (a ∷ bs) b some e = λ i. command_from (sym e i) (sym (take_rest (a ∷
 
 -- a command
 command_reads : (b : ℕ) (bs : List ℕ) (c : Command) → command_from b bs ≡ Some c → Spells c (b ∷ bs)
-command_reads b bs c e = go (eqb b 72) (eqb b 84) (eqb b 83) refl refl refl e
+command_reads b bs c e = go (eqb b 72) (eqb b 84) (eqb b 82) (eqb b 83) refl refl refl refl e
   where
     go :
-        (h t s : Bool) → eqb b 72 ≡ h → eqb b 84 ≡ t → eqb b 83 ≡ s
-        → cond h (then (two_numbers bs) λ p. Some (Hold p.0 p.1)) (cond t (then (one_number bs) λ n. Some (Tick n)) (cond s (ended Sheet bs) None)) ≡ Some c → Spells c (b ∷ bs)
-    go true t s is _ _ e =
+        (h t r s : Bool) → eqb b 72 ≡ h → eqb b 84 ≡ t → eqb b 82 ≡ r → eqb b 83 ≡ s
+        → cond h (then (two_numbers bs) λ p. Some (Hold p.0 p.1)) (cond t (then (one_number bs) λ n. Some (Tick n)) (cond r (then (one_number bs) λ n. Some (Redraw n)) (cond s (ended Sheet bs) None))) ≡ Some c
+        → Spells c (b ∷ bs)
+    go true t r s is _ _ _ e =
         let q = then_some (two_numbers bs) (λ p. Some (Hold p.0 p.1)) c e in
         subst (λ c. Spells c (b ∷ bs)) (same_some (Hold q.0.0 q.0.1) c q.2) (bs, ap (λ x. x ∷ bs) (eqb-true b 72 is), two_reads bs q.0.0 q.0.1 q.1)
-    go false true s _ is _ e =
+    go false true r s _ is _ _ e =
         let q = then_some (one_number bs) (λ n. Some (Tick n)) c e in
         subst (λ c. Spells c (b ∷ bs)) (same_some (Tick q.0) c q.2) (bs, ap (λ x. x ∷ bs) (eqb-true b 84 is), one_reads bs q.0 q.1)
-    go false false true _ _ is e =
+    go false false true s _ _ is _ e =
+        let q = then_some (one_number bs) (λ n. Some (Redraw n)) c e in
+        subst (λ c. Spells c (b ∷ bs)) (same_some (Redraw q.0) c q.2) (bs, ap (λ x. x ∷ bs) (eqb-true b 82 is), one_reads bs q.0 q.1)
+    go false false false true _ _ _ is e =
         let q = ended_reads Sheet c bs e in
         subst (λ c. Spells c (b ∷ bs)) q.1 (bs, ap (λ x. x ∷ bs) (eqb-true b 83 is), q.0)
-    go false false false _ _ _ e = none_some c e
+    go false false false false _ _ _ _ e = none_some c e
 
 line_reads : (bs : List ℕ) (c : Command) → command_of bs ≡ Some c → Spells c bs
 line_reads [] c e = none_some c e
@@ -128,6 +132,7 @@ line_reads (b ∷ bs) c e = command_reads b bs c e
 line_writes : (bs : List ℕ) (c : Command) → Spells c bs → command_of bs ≡ Some c
 line_writes bs (Hold s d) p = ap command_of p.1 ∙ ap (λ o. then o λ p. Some (Hold p.0 p.1)) (two_writes p.0 s d p.2)
 line_writes bs (Tick w) p = ap command_of p.1 ∙ ap (λ o. then o λ n. Some (Tick n)) (one_writes p.0 w p.2)
+line_writes bs (Redraw b) p = ap command_of p.1 ∙ ap (λ o. then o λ n. Some (Redraw n)) (one_writes p.0 b p.2)
 line_writes bs Sheet p = ap command_of p.1 ∙ ap (ended Sheet) p.2
 
 pub exactly : (r : Option Command) (bs : List ℕ) → r ≡ command_of bs → ReadsExactly r bs
@@ -144,6 +149,9 @@ hold_back s d small few =
 
 pub tick_back : (w : ℕ) → w < 2 ^ 32 → command_of (command_text (Tick w)) ≡ Some (Tick w)
 tick_back w small = line_writes (command_text (Tick w)) (Tick w) (_, refl, (decimal w, 10 ∷ [], refl, decimal_writes w small, refl))
+
+pub redraw_back : (b : ℕ) → b < 2 ^ 32 → command_of (command_text (Redraw b)) ≡ Some (Redraw b)
+redraw_back b small = line_writes (command_text (Redraw b)) (Redraw b) (_, refl, (decimal b, 10 ∷ [], refl, decimal_writes b small, refl))
 
 pub sheet_back : command_of (command_text Sheet) ≡ Some Sheet
 sheet_back = line_writes (command_text Sheet) Sheet (_, refl, refl)

@@ -5,11 +5,12 @@ ghost use Rattle.lines.specs.Lines.{command_of, command_text, ReadsExactly};
 use crate::numbers::{last_number, last_two_numbers};
 use std::alloc::{AllocError, Global};
 
-// Hold a shuttle for some ticks, tick with a standing word, or show the sheet.
+// Hold a shuttle for some ticks, tick with a standing word, put the cheapest orders in force that a search with a budget finds, or show the sheet.
 #[derive(Clone, Copy, PartialEq, Eq, Debug)]
 pub enum Command {
     Hold { shuttle: u32, ticks: u32 },
     Tick { standing: u32 },
+    Redraw { budget: u32 },
     Sheet,
 }
 
@@ -30,6 +31,10 @@ pub fn read_line(line: &[u8]) -> Option<Command>
             let standing = last_number(rest)?;
             Some(Command::Tick { standing })
         }
+        'R' => {
+            let budget = last_number(rest)?;
+            Some(Command::Redraw { budget })
+        }
         'S' => match rest {
             [b'\n'] => Some(Command::Sheet),
             _ => None,
@@ -47,6 +52,7 @@ pub fn command_line(heap: Global, command: Command) -> Result<String, AllocError
     match command {
         Command::Hold { shuttle, ticks } => format!(in heap; "H {shuttle} {ticks}\n"),
         Command::Tick { standing } => format!(in heap; "T {standing}\n"),
+        Command::Redraw { budget } => format!(in heap; "R {budget}\n"),
         Command::Sheet => String::from_str(heap, "S\n"),
     }
 }

@@ -5,12 +5,13 @@ ghost use Rattle.lines.specs.Replies.{reply_words, reply_text};
 use std::alloc::{AllocError, Global};
 use std::fmt;
 
-// A hold was taken, a tick was made and this word moved, the sheet was written and has so many bytes, the command was refused with a number, or memory was wanting.
+// A hold was taken, a tick was made and this word moved, orders of this cost were put in force, the sheet was written and has so many bytes, the command was refused with a number, or memory was wanting.
 // The number is what is printed; the kinds of refusals are those of the crates that refuse.
 #[derive(Clone, Copy, PartialEq, Eq, Debug)]
 pub enum Reply {
     Held,
     Ticked { moved: u32 },
+    Redrawn { cost: u64 },
     Sheet { bytes: usize },
     Refused { number: u8 },
     NoMemory,
@@ -23,6 +24,7 @@ impl fmt::Display for Reply {
         match self {
             Reply::Held => write!(f, "H"),
             Reply::Ticked { moved } => write!(f, "T {moved}"),
+            Reply::Redrawn { cost } => write!(f, "R {cost}"),
             Reply::Sheet { .. } => write!(f, "S"),
             Reply::Refused { number } => write!(f, "no {number}"),
             Reply::NoMemory => write!(f, "no memory"),

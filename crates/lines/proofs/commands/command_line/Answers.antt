@@ -2,7 +2,7 @@ use Rattle.std.proofs.Common.{◌≡◌, ℕ, List, [], ◌∷◌, ◌++◌, IfO
 use Rattle.std.proofs.lemmas.Result.{IfOk-weaker}
 use Rattle.lines.specs.declared.commands.Command.{Command}
 use Rattle.lines.specs.Lines.{command_of, command_text}
-use Rattle.lines.proofs.Spelling.{hold_back, tick_back}
+use Rattle.lines.proofs.Spelling.{hold_back, tick_back, redraw_back}
 use Rattle.lines.proofs.commands.command_line.Goals as goal
 
 abbrev Back : Command → Type 0
@@ -27,3 +27,9 @@ returns-in-Tick c =
     let back : Back c.args.command = subst Back (sym c.in-Tick.is) (tick_back c.in-Tick.standing (search rules)) in
     let text : IfOk c.format-in-Tick.result (λ t. string_bytes t ≡ command_text c.args.command) = search rules in
     record { text = text; back = IfOk-weaker c.format-in-Tick.result _ _ (λ t e. ap command_of e ∙ back) text }
+
+pub returns-in-Redraw : goal.returns-in-Redraw
+returns-in-Redraw c =
+    let back : Back c.args.command = subst Back (sym c.in-Redraw.is) (redraw_back c.in-Redraw.budget (search rules)) in
+    let text : IfOk c.format-in-Redraw.result (λ t. string_bytes t ≡ command_text c.args.command) = search rules in
+    record { text = text; back = IfOk-weaker c.format-in-Redraw.result _ _ (λ t e. ap command_of e ∙ back) text }

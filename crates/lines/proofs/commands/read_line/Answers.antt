@@ -26,5 +26,17 @@ returns-in_ok-standing-in-T-clause-exact c =
     let was = sym c.last_number.ensures ∙ c.in_ok-standing-in-T.was in
     exactly _ _ (search rules)
 
+pub returns-in_err-budget-in-R-clause-exact : goal.returns-in_err-budget-in-R-clause-exact
+returns-in_err-budget-in-R-clause-exact c =
+    let is = begins c.args.line.now 82 (search rules) (search rules) in
+    let was = sym c.last_number-in-R.ensures ∙ c.in_err-budget-in-R.was in
+    exactly _ _ (search rules)
+
+pub returns-in_ok-budget-in-R-clause-exact : goal.returns-in_ok-budget-in-R-clause-exact
+returns-in_ok-budget-in-R-clause-exact c =
+    let is = begins c.args.line.now 82 (search rules) (search rules) in
+    let was = sym c.last_number-in-R.ensures ∙ c.in_ok-budget-in-R.was in
+    exactly _ _ (search rules)
+
 pub returns-in-10-clause-exact : goal.returns-in-10-clause-exact
 returns-in-10-clause-exact c = exactly _ _ (search rules)
