@@ -98,8 +98,8 @@ impl Dispatcher {
         ensures size { L.capacity list.new ≡ L.capacity list.old }
     {
         let Drafted { cost, taken, slip } = self.draft(cost, list, budget)?;
-        let Slip { run, draft } = slip;
-        put_slip(pockets, pocket, Slip { run, draft });
+        let (run, draft) = (slip.run, slip.draft);
+        put_slip(pockets, pocket, slip);
         Ok(Answer::Drafted {
             cost,
             taken,

@@ -110,6 +110,13 @@ impl Dispatcher {
         &self.run
     }
 
+    /// How many drafts the run gave.
+    pub fn drafts(&self) -> Option<u16>
+        ensures { result ≡ option_map (λ d. d.drafts) self.now }
+    {
+        self.run.driven().map(|_| self.drafts)
+    }
+
     /// The draft in hand.
     pub fn hand(&self) -> Option<&HandDraft>
         ensures { option_copied result ≡ option_and_then (λ d. d.hand) self.now }
@@ -124,7 +131,6 @@ impl Dispatcher {
     {
         self.run.open(alloc, number, bytes)?;
         self.drafts = 0;
-        self.hand = None;
         Ok(())
     }
 

@@ -1,4 +1,6 @@
 //! The law over whole lists of calls, on the contract of a function that does nothing.
+ghost use Rattle.std.specs.Prelude.{◌≡◌};
+ghost use Rattle.dispatch.specs.declared.dispatcher.TheConstants.{MOST_DRAFTS};
 ghost use Rattle.dispatch.specs.Law.{TalliesStand};
 
 use redraw::laws::redraws_stand;
@@ -6,7 +8,8 @@ use run::laws::runs_stand;
 
 /// What stands of every tally: no collision, arrival, and the least cost.
 pub fn tallies_stand()
-    ensures { TalliesStand }
+    ensures stand { TalliesStand }
+    ensures most { MOST_DRAFTS ≡ 60000 }
 {
     runs_stand();
     redraws_stand();

@@ -1,4 +1,10 @@
 // Lists of calls on a plan that was worked out by hand.
+ghost use Rattle.std.specs.Prelude.{List, Some, IfSome};
+ghost use Rattle.plans.specs.declared.plan.Plan.{Plan};
+ghost use Rattle.dispatch.specs.Agreement.{Agrees};
+ghost use Rattle.dispatch.specs.Law.{Stands};
+ghost use Rattle.dispatch.specs.Tally.{Call, tally};
+
 use crate::answers::Answer;
 use crate::calls::{Entry, Watch};
 use crate::dispatcher::Dispatcher;
@@ -33,6 +39,24 @@ impl Watch for Answers {
             self.count += 1;
         }
     }
+}
+
+// The clauses alone show that a list of calls on what was just opened ends where the law holds.
+fn open_and_carry<C: Cost, L: WaitingList, W: Watch>(
+    alloc: Global,
+    number: u32,
+    bytes: &[u8],
+    entries: &mut [Entry<C, L>],
+    pockets: &mut [Option<Slip>],
+    watch: &mut W,
+) -> Option<Dispatcher>
+    ensures { IfSome result (λ d. (plan : Plan) × ((calls : List Call)
+        × (Agrees d (Some (tally plan number calls)) × Stands plan number calls))) }
+{
+    let mut dispatcher = Dispatcher::new();
+    dispatcher.open(alloc, number, bytes).ok()?;
+    dispatcher.carry_all(entries, pockets, watch);
+    Some(dispatcher)
 }
 
 fn open(alloc: Global) -> Result<Dispatcher, Fail> {
@@ -160,5 +184,17 @@ fn slips(rt: HostRuntime) -> Result<(), Fail> {
         None,
     ];
     assert!(rt; answers.all == expected);
+    Ok(())
+}
+
+#[test]
+fn a_refused_plan(rt: HostRuntime) -> Result<(), Fail> {
+    let mut answers = Answers {
+        all: [None; 10],
+        count: 0,
+    };
+    let mut entries: [Entry<Sum, NodeHeap<'_>>; 1] = [Entry::Tick { standing: 0 }];
+    let dispatcher = open_and_carry(rt.alloc(), 7, b"", &mut entries, &mut [], &mut answers);
+    assert!(rt; dispatcher.is_none());
     Ok(())
 }

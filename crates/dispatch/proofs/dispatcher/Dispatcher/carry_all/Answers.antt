@@ -40,5 +40,5 @@ returns g c =
     let lists = list_rules l.nodes l.moves l.capacity in
     let k = c.loop-entry in
     let a = c.args in
-    carries_all costs lists g.W.Watch.saw c.tallies_stand.ensures a.entries.now a.pockets.now a.watch.now a.self.now k.entries k.pockets k.watch k.self
+    carries_all costs lists g.W.Watch.saw c.tallies_stand.ensures.stand a.entries.now a.pockets.now a.watch.now a.self.now k.entries k.pockets k.watch k.self
     (λ o agrees. rw (← take_all k.entry-index a.entries.now c.loop-entry-test.false, ← take_all k.entry-index k.entries (omega (arith, c.loop-entry-test.false, k.auto.entries))) (k.invariant.1 o agrees))
