@@ -10,6 +10,7 @@ use Rattle.dispatch.specs.Carrying.{after_list}
 use Rattle.dispatch.specs.Dispatch.{Dispatch}
 use Rattle.dispatch.specs.Law.{TalliesStand}
 use Rattle.dispatch.specs.Tally.{Tally, Call, after, after_all, tally, fresh_tally, shown}
+use Rattle.desk.proofs.Least.{leaves_least}
 use Rattle.desk.specs.Calls.{refused_by}
 use Rattle.desk.specs.Replies.{SheetShown, WritesSheet, Obeyed, CarriesOut}
 
@@ -35,6 +36,7 @@ lawfully stand line r old new sheet sheet_after obeyed = record {
         reply = k.reply;
         agrees = k.agrees ∙ ap (option_map shown) there;
         stands = stand plan number (before ++ k.calls) kept;
+        least = leaves_least stand plan number before kept line r sheet sheet_after k.calls k.makes k.reply;
       };
 }
 

@@ -1,4 +1,5 @@
 mod Agreeing
 mod Plain
 mod Carried
+mod Least
 mod Lawful

@@ -59,7 +59,7 @@ plain_tick standing None = plain_number 1 (λ e. omega (arith, e))
 plain_tick standing (Some t) = by_floor (tick_fault (paths_on t.state) standing) (Moved (moved_on standing t.state)) (tally_ticked standing t) (λ buffer. tt, λ e. cc)
 
 -- an answer to a draft
-abbrev OfDraft : Result Answer Refusal → Type 0
+abbrev pub OfDraft : Result Answer Refusal → Type 0
 OfDraft (Ok (Drafted cost taken run draft)) = Unit {0}
 OfDraft (Ok Held) = ⊥
 OfDraft (Ok (Moved word)) = ⊥
@@ -79,7 +79,7 @@ by_draft true given cost r t = plain_number 10 (λ e. omega (arith, e))
 by_draft false true cost r t = plain_number 11 (λ e. omega (arith, e))
 by_draft false false cost r t = by_search cost r t
 
-of_draft : (cost : Costing) (capacity budget : ℕ) (places : List ℕ) (o : Option Tally) → OfDraft (answer_on (Draft cost capacity budget places) o)
+pub of_draft : (cost : Costing) (capacity budget : ℕ) (places : List ℕ) (o : Option Tally) → OfDraft (answer_on (Draft cost capacity budget places) o)
 of_draft cost capacity budget places None = plain_number 1 (λ e. omega (arith, e))
 of_draft cost capacity budget places (Some t) =
     by_draft (ltb MOST_OPEN (open_count t.state)) (leb MOST_DRAFTS t.drafts) cost (redrawn cost.start cost.next t.state capacity budget places) t

@@ -53,11 +53,15 @@ fresh_list = record {
   below = record { row = []; free = HEAP_ROOM };
 }
 
+-- a cost that is the sum of the arrivals
+abbrev pub IsSum : Costing → Type 0
+IsSum cost = IsCostOf 0 (λ total _ arrival. total_with total arrival) cost
+
 -- How a draft with this budget searches from a tally: by the sum of the arrivals, and over a fresh
 -- list, with places that its rule allows.
 pub record Search (budget : ℕ) (o : Option Tally) : Type 0 where
   pub cost : Costing
-  pub is : IsCostOf 0 (λ total _ arrival. total_with total arrival) cost
+  pub is : IsSum cost
   pub places : List ℕ
   pub list_after : DraftList
   pub leaves : LeavesList draft_lists cost budget places (option_map shown o) fresh_list list_after

@@ -5,7 +5,7 @@ use Rattle.std.specs.Str.{IsAscii}
 use Rattle.lines.specs.declared.commands.Command.{Command}
 use Rattle.lines.specs.declared.commands.Command.TheVariants as command
 use Rattle.lines.specs.declared.replies.Reply.{Reply}
-use Rattle.lines.specs.declared.replies.Reply.TheVariants.{Sheet}
+use Rattle.lines.specs.declared.replies.Reply.TheVariants.{Redrawn, Sheet}
 use Rattle.plans.specs.declared.plan.Plan.{Plan}
 use Rattle.plans.specs.Kept.{IsKept}
 use Rattle.refusals.specs.declared.Refusal.{Refusal}
@@ -14,10 +14,11 @@ use Rattle.run.specs.State.{State}
 use Rattle.sheet.specs.Written.{SheetWritten}
 use Rattle.dispatch.specs.Agreement.{Agrees}
 use Rattle.dispatch.specs.Carrying.{after_list}
+use Rattle.dispatch.specs.Costing.{Costing}
 use Rattle.dispatch.specs.Dispatch.{Dispatch}
-use Rattle.dispatch.specs.Law.{Stands}
+use Rattle.dispatch.specs.Law.{IsLeast, Stands}
 use Rattle.dispatch.specs.Tally.{Tally, Call, tally}
-use Rattle.desk.specs.Calls.{refused_by, LineMakes, reply_of}
+use Rattle.desk.specs.Calls.{IsSum, refused_by, LineMakes, reply_of}
 
 -- a reply that does not say that a buffer was too short
 abbrev pub IsNotShort : Reply → Type 0
@@ -74,6 +75,17 @@ abbrev pub Obeyed :
 Obeyed line r old new sheet sheet_after =
     (o : Option Tally) → Agrees old o → Obeys line r o new sheet sheet_after
 
+-- The orders in force cost so much, by the sum of the arrivals, and no lawful orders cost less.
+pub record IsLeastSum (total : ℕ) (st : State) : Type 0 where
+  pub cost : Costing
+  pub is : IsSum cost
+  pub least : IsLeast cost st total
+
+-- a redrawing that is carried out shows the least cost, and leaves its orders in force
+abbrev pub LeavesLeast : Option Command → Reply → State → Type 0
+LeavesLeast (Some (command.Redraw budget)) (Redrawn total) st = IsLeastSum total st
+LeavesLeast line r st = Unit {0}
+
 -- The same from the tally of a list of calls, and the law after it.
 pub record ObeysLawfully
     (line : Option Command) (r : Reply) (plan : Plan) (number : ℕ) (before : List Call)
@@ -84,6 +96,7 @@ pub record ObeysLawfully
   pub reply : RepliedToLine line (Some (tally plan number before)) calls r sheet sheet_after
   pub agrees : Agrees new (Some (tally plan number (before ++ calls)))
   pub stands : Stands plan number (before ++ calls)
+  pub least : LeavesLeast line r (tally plan number (before ++ calls)).state
 
 -- A line, from any tally, from none, and from that of a list of calls before it.
 pub record CarriesOut
