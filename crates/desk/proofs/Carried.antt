@@ -20,6 +20,7 @@ use Rattle.dispatch.specs.Tally.{Tally, Call, Hold, Tick, Adopt}
 use Rattle.desk.specs.declared.calls.Replying.{Replying}
 use Rattle.desk.specs.Calls.{DraftList, draft_lists, fresh_list, Search, draft, adoption, reply_to, last_reply, reply_of, Saw, Carries}
 use Rattle.desk.specs.Replies.{Obeyed}
+use Rattle.desk.proofs.Adopting.{shows_draft}
 use Rattle.desk.proofs.Agreeing.{agreeing}
 use Rattle.desk.proofs.Plain.{Plainly, plain_hold, plain_tick, plain_redraw}
 
@@ -152,5 +153,6 @@ module _ {C : Type 0} (cost : C) (budget : ℕ) where
           calls = on.calls;
           makes = (told.search, told.calls_are);
           reply = (sym is ∙ k.reply ∙ told.reply, refl);
+          draft = shows_draft budget o told.search on.calls x told.calls_are (sym is ∙ k.reply ∙ told.reply);
           agrees = k.spent told.pockets ∙ on.agrees;
         }

@@ -34,6 +34,7 @@ lawfully stand line r old new sheet sheet_after obeyed = record {
         calls = k.calls;
         makes = k.makes;
         reply = k.reply;
+        draft = k.draft;
         agrees = k.agrees ∙ ap (option_map shown) there;
         stands = stand plan number (before ++ k.calls) kept;
         least = leaves_least stand plan number before kept line r sheet sheet_after k.calls k.makes k.reply;
@@ -50,9 +51,10 @@ sheet_obeyed r d sheet sheet_after h o agrees = record {
   calls = [];
   makes = refl;
   reply = subst (λ (st : Option State). WritesSheet st r sheet sheet_after) (ap (λ (x : Option Dispatch). option_map (λ d. d.state) x) agrees ∙ state_shown o) h;
+  draft = tt;
   agrees = agrees;
 }
 
 -- a bad line
 pub bad_obeyed : (d : Option Dispatch) (sheet : List ℕ) → Obeyed None (refused_by BadLine) d d sheet sheet
-bad_obeyed d sheet o agrees = record { calls = []; makes = refl; reply = (refl, refl); agrees = agrees }
+bad_obeyed d sheet o agrees = record { calls = []; makes = refl; reply = (refl, refl); draft = tt; agrees = agrees }

@@ -15,7 +15,7 @@ use Rattle.dispatch.specs.declared.answers.Answer.{Answer}
 use Rattle.dispatch.specs.declared.answers.Answer.TheVariants.{Held, Moved, Drafted, Adopted, Dismissed}
 use Rattle.dispatch.specs.Costing.{Costing}
 use Rattle.dispatch.specs.Law.{IsLeast, TalliesStand}
-use Rattle.dispatch.specs.Tally.{MadeDraft, Tally, Call, Draft, Adopt, Outcome, Refused, Done, unless, refusal_before, outcome_of_search, tally_after, answer_of, after, answer, after_all, tally, fresh_tally}
+use Rattle.dispatch.specs.Tally.{MadeDraft, Tally, Call, Draft, Adopt, unless, refusal_before, outcome_of_search, tally_after, answer_of, after, answer, after_all, tally, fresh_tally}
 use Rattle.desk.specs.Calls.{DRAFT_ROOM, Search, draft, adoption, reply_to, reply_of, last_reply, refused_by, by_number, LineMakes}
 use Rattle.desk.specs.Replies.{IsLeastSum, LeavesLeast, RepliedToLine}
 use Rattle.desk.proofs.Plain.{OfDraft, of_draft}

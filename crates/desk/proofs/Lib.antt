@@ -1,5 +1,6 @@
 mod Agreeing
 mod Plain
+mod Adopting
 mod Carried
 mod Least
 mod Lawful

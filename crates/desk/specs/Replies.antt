@@ -1,5 +1,5 @@
 -- What the console prints for a line, and what the line does to the dispatcher.
-use Rattle.std.specs.Prelude.{◌≡◌, ℕ, ◌≤◌, List, ◌++◌, length, take, Some, None, Ok, Err, Option, Result, ◌≢◌}
+use Rattle.std.specs.Prelude.{◌≡◌, ℕ, ◌≤◌, List, ◌∷◌, ◌++◌, length, take, Some, None, Ok, Err, Option, Result, ◌≢◌}
 use Rattle.std.specs.Option.{option_map}
 use Rattle.std.specs.Str.{IsAscii}
 use Rattle.lines.specs.declared.commands.Command.{Command}
@@ -12,7 +12,9 @@ use Rattle.refusals.specs.declared.Refusal.{Refusal}
 use Rattle.refusals.specs.declared.Refusal.TheVariants.{ShortBuffer, BadLine}
 use Rattle.run.specs.State.{State}
 use Rattle.sheet.specs.Written.{SheetWritten}
-use Rattle.dispatch.specs.Agreement.{Agrees}
+use Rattle.dispatch.specs.declared.answers.Answer.{Answer}
+use Rattle.dispatch.specs.declared.answers.Answer.TheVariants.{Drafted}
+use Rattle.dispatch.specs.Agreement.{Agrees, answer_on}
 use Rattle.dispatch.specs.Carrying.{after_list}
 use Rattle.dispatch.specs.Costing.{Costing}
 use Rattle.dispatch.specs.Dispatch.{Dispatch}
@@ -59,6 +61,17 @@ abbrev pub RepliedToLine :
 RepliedToLine None o calls r old new = (r ≡ refused_by BadLine) × (new ≡ old)
 RepliedToLine (Some command) o calls r old new = Replied command o calls r old new
 
+-- The reply shows a draft: its cost, or why it is refused. So no adoption is refused.
+abbrev pub Shows : Result Answer Refusal → Reply → Type 0
+Shows (Ok (Drafted cost taken run draft)) r = r ≡ Redrawn cost
+Shows (Ok answer) r = ⊥
+Shows (Err why) r = r ≡ refused_by why
+
+-- a redrawing begins with its draft
+abbrev pub ShowsDraft : Option Command → Option Tally → List Call → Reply → Type 0
+ShowsDraft (Some (command.Redraw budget)) o (call ∷ calls) r = Shows (answer_on call o) r
+ShowsDraft line o calls r = Unit {0}
+
 -- A line is carried out from a tally, or without a plan: its calls, the reply to them and the
 -- buffer, and what the dispatcher then agrees with.
 pub record Obeys
@@ -68,6 +81,7 @@ pub record Obeys
   pub calls : List Call
   pub makes : LineMakes line o calls
   pub reply : RepliedToLine line o calls r sheet sheet_after
+  pub draft : ShowsDraft line o calls r
   pub agrees : Agrees new (after_list calls o)
 
 abbrev pub Obeyed :
@@ -94,6 +108,7 @@ pub record ObeysLawfully
   pub calls : List Call
   pub makes : LineMakes line (Some (tally plan number before)) calls
   pub reply : RepliedToLine line (Some (tally plan number before)) calls r sheet sheet_after
+  pub draft : ShowsDraft line (Some (tally plan number before)) calls r
   pub agrees : Agrees new (Some (tally plan number (before ++ calls)))
   pub stands : Stands plan number (before ++ calls)
   pub least : LeavesLeast line r (tally plan number (before ++ calls)).state
