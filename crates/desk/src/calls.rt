@@ -39,6 +39,7 @@ impl Watch for Replying {
             Ok(Answer::Held) => Some(Reply::Held),
             Ok(Answer::Moved(moved)) => Some(Reply::Ticked { moved }),
             Ok(Answer::Adopted(cost)) => Some(Reply::Redrawn { cost }),
+            // A draft is replied to by its adoption, and no line dismisses one.
             Ok(Answer::Drafted { .. } | Answer::Dismissed) => self.reply,
             Err(why) => Some(refused(why)),
         };
