@@ -298,6 +298,18 @@ case("opened twice", *held_P, f"open 0 7 {p} => no 2", f"open 0 9 {q} => no 2", 
 case("run numbers at their ends", opened(0, 0, P), opened(1, most, P), f"calls 0 {draft(0)} => draft 6 3 0 1", f"calls 1 {draft(1)} => draft 6 3 {most} 1",
      "calls 1 adopt:0 => no 14, 1 in hand", "calls 1 adopt:1 => adopted 6", f"state 1 => run {most}: 0:0 0:0 L 2 4")
 
+# the worked plans, 1 to 9
+fresh_P, held = opened(0, 7, P), "calls 0 hold:0:5"
+case("worked plan 1", fresh_P, "state 0 => run 7: 0:0 0:0 L 2 4", f"calls 0 {draft(0)} => draft 6 3 7 1", "hand 0 => hand 1 6 L")
+case("worked plan 2", fresh_P, held, "state 0 => run 7: 0:5 0:0 L 7 9", "sheet 0 => sheet 8 / 7 0 / 9 1")
+case("worked plan 3", fresh_P, f"{held} {draft(0)} {draft(1, 'sum', 'stack')} => held / draft 9 3 7 1 / draft 9 3 7 2", "hand 0 => hand 2 9 O")
+case("worked plan 4", fresh_P, f"{held} {draft(0, budget=2)} => held / no 13 2")
+case("worked plan 5", fresh_P, f"{held} {draft(0, places=1)} => held / no 12 1")
+case("worked plan 6", fresh_P, f"calls 0 tick:0 hold:0:5 {draft(0)} => moved 1 / held / draft 14 1 7 1", "hand 0 => hand 1 14 L")
+case("worked plan 7", opened(0, 7, P, [5]), f"{held} {draft(0)} => held / draft 16 1 7 1", "hand 0 => hand 1 16 L")
+case("worked plan 8", fresh_P, "orders 0 => 0002000a0000000a0001000100000002")
+case("worked plan 9", opened(0, 7, Q), f"{held} {draft(0)} {draft(1, 'sum', 'stack')} => held / draft 11 7 7 1 / draft 11 5 7 2", "hand 0 => hand 2 11 OO")
+
 # the plan P
 case("a draft adopted", *held_P, "hand 0 => hand 1 9 O", "state 0 => run 7: 0:5 0:0 L 7 9", "sheet 0 => sheet 8 / 7 0 / 9 1",
      "orders 0 => 0002000a0000000a0001000100000002", "calls 0 adopt:0 => adopted 9", "hand 0 => hand none", "state 0 => run 7: 0:5 0:0 O 7 2",
