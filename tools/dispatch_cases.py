@@ -319,6 +319,8 @@ case("a draft adopted", *held_P, "hand 0 => hand 1 9 O", "state 0 => run 7: 0:5 
      f"calls 0 {draft(0)} adopt:0 => draft 0 1 7 2 / adopted 0")
 case("the same in one list", opened(0, 7, P), f"calls 0 hold:0:5 {draft(0)} adopt:0 {' '.join(7 * ['tick:0'])} {draft(0)} dismiss:0 hold:0:0 => "
      "held / draft 9 3 7 1, 1 in hand / adopted 9 / moved 2 / moved 2 / moved 0 / moved 0 / moved 0 / moved 1 / moved 1 / draft 0 1 7 2 / dismissed / no 8 / lists 0 0")
+case("Q drafted, adopted and driven to its end", opened(0, 7, Q), f"calls 0 hold:0:5 {draft(0)} adopt:0 {' '.join(8 * ['tick:0'])} => "
+     "held / draft 11 7 7 1 / adopted 11 / moved 2 / moved 2 / moved 2 / moved 0 / moved 0 / moved 1 / moved 1 / moved 1", "state 0 => run 7: 3:0 3:0 OO 0 0")
 case("a draft dismissed", *held_P, "calls 0 dismiss:0 => dismissed", "hand 0 => hand none", "state 0 => run 7: 0:5 0:0 L 7 9", f"calls 0 {draft(4)} => draft 9 3 7 2",
      "calls 0 adopt:4 => adopted 9", "calls 0 adopt:4 dismiss:4")
 case("a draft that nobody adopts", opened(0, 7, P), f"calls 0 {draft(0)} {draft(3)} => draft 6 3 7 1 / draft 6 3 7 2, 2 in hand")
