@@ -10,7 +10,7 @@ from collections import Counter
 
 sys.dont_write_bytecode = True
 from cost_cases import COSTS, total
-from drawn import drawn_plan
+from drawn import drawn_plan, pair
 from list_cases import LISTS, List
 from plan_cases import encode, grid, order_file, text
 from runs import Run
@@ -391,15 +391,6 @@ case("every cost over every list", opened(0, 7, Q), "dues 4 2", "weights 3 1001"
      *["calls 0 " + " ".join(f"{draft(k, cost, name, 8)} dismiss:{k}" for k, name in enumerate(LISTS)) for cost in COSTS])
 case("adopted by one cost, drafted by another", opened(0, 7, Q), "calls 0 hold:0:5", f"calls 0 {draft(0, 'last')} adopt:0 {draft(1, 'sum')} adopt:1",
      f"calls 0 hold:0:0 hold:1:9 {draft(0)} {draft(1, 'last', 'stack')} adopt:1", "state 0")
-
-
-def pair(k, shared):
-    """One shuttle that passes some places, and one that comes to each of them two ticks after the first has left it."""
-    own = iter(range(1000 * k + 500, 1000 * k + 999))
-    first = [(next(own), 0)] + [x for j in range(shared) for x in ((1000 * k + j, 2 * j + 1), (next(own), 2 * j + 2))]
-    second = [(next(own), t) for t in range(4)] + [x for j in range(shared) for x in ((1000 * k + j, 2 * j + 4), (next(own), 2 * j + 5))]
-    return [first, second]
-
 
 # many open meetings
 sixteen = [path for k in range(16) for path in pair(k, 4)]

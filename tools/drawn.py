@@ -42,3 +42,11 @@ def drawn_plan(dice, shuttles, kind, size):
     paths = let_go(dice, routes)
     met = sorted({a for p in paths for a, _ in p if a < 1000})
     return paths, dice.sample(met, min(len(met), dice.choice([0, 0, 0, 1, 2])))
+
+
+def pair(k, shared):
+    """One shuttle that passes some places, and one that comes to each of them two ticks after the first has left it."""
+    own = iter(range(1000 * k + 500, 1000 * k + 999))
+    first = [(next(own), 0)] + [x for j in range(shared) for x in ((1000 * k + j, 2 * j + 1), (next(own), 2 * j + 2))]
+    second = [(next(own), t) for t in range(4)] + [x for j in range(shared) for x in ((1000 * k + j, 2 * j + 4), (next(own), 2 * j + 5))]
+    return [first, second]

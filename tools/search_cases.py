@@ -8,7 +8,7 @@ import copy, pathlib, random, sys
 
 sys.dont_write_bytecode = True
 from cost_cases import total
-from drawn import drawn_plan
+from drawn import drawn_plan, pair
 from list_cases import List
 from plan_cases import encode
 from runs import Run
@@ -175,15 +175,6 @@ case("one place twice on a path", fresh(twice), "H 0 5 => H", "C sum => C 20", "
 case("a meeting at a last stop", fresh([[(1, 0), (5, 9)], [(3, 0), (5, 2), (4, 3)]]), "H 1 5 => H", "C sum => C 15", "R sum heap 8 100 0 => R 15 1 O")
 ring = [[(1, 0), (21, 1), (2, 2), (20, 3), (3, 4)], [(4, 0), (20, 1), (5, 2), (22, 3), (6, 4)], [(7, 0), (22, 1), (8, 2), (21, 3), (9, 4)]]
 case("a ring of three", fresh(ring), *[line for held in ("H 0 6", "H 1 6", "H 2 6", "H 0 0", "H 1 0") for line in (held, "C sum", *(f"R sum {one} 8 100 0" for one in LISTS))])
-
-
-def pair(k, shared):
-    """One shuttle that passes some places, and one that comes to each of them two ticks after the first has left it."""
-    own = iter(range(1000 * k + 500, 1000 * k + 999))
-    first = [(next(own), 0)] + [x for j in range(shared) for x in ((1000 * k + j, 2 * j + 1), (next(own), 2 * j + 2))]
-    second = [(next(own), t) for t in range(4)] + [x for j in range(shared) for x in ((1000 * k + j, 2 * j + 4), (next(own), 2 * j + 5))]
-    return [first, second]
-
 
 sixteen = [path for k in range(16) for path in pair(k, 4)]
 case("64 open meetings", fresh(sixteen), "C sum => C 304", "R sum heap 8 100 0 => R 304 1 " + 64 * "L", "H 30 5 => H", "C sum => C 313",
