@@ -2,7 +2,7 @@
 ghost use Rattle.std.specs.Prelude.{◌≡◌, ◌==◌, [], length};
 ghost use Rattle.std.specs.List.Sorted.{IsPermutation};
 ghost use Rattle.heap.specs.Bounded.{PutsIn, TakesOut, capacity};
-ghost use Rattle.heap.specs.Rows.{Ascends, no_later};
+ghost use Rattle.heap.specs.Rows.{Ascends};
 
 use crate::heap::{Full, put, take_first};
 use crate::order::TotalOrder;
@@ -19,13 +19,12 @@ impl<'a, T: TotalOrder + Copy> Model for BoundedHeap<'a, T> {
     ghost use Rattle.std.specs.Prelude.{◌≤◌, length, take};
     ghost use Rattle.heap.specs.Bounded.{Holding, held};
     ghost use Rattle.heap.specs.Heaps.{Heap};
-    ghost use Rattle.heap.specs.Rows.{no_later};
 
     ghost Value = { Holding T };
 
-    ghost view = { λ h. held (no_later T.cmp) h.len h.memory.now };
+    ghost view = { λ h. held T.le h.len h.memory.now };
 
-    ghost invariant = { λ h. (h.len ≤ length h.memory.now) × Heap (no_later T.cmp) (take h.len h.memory.now) };
+    ghost invariant = { λ h. (h.len ≤ length h.memory.now) × Heap T.le (take h.len h.memory.now) };
 }
 
 impl<'a, T: TotalOrder + Copy> BoundedHeap<'a, T> {
@@ -61,7 +60,7 @@ impl<'a, T: TotalOrder + Copy> BoundedHeap<'a, T> {
     // Its elements, in the order in which they lie in the memory. The row is their ascending list.
     pub fn as_slice(&self) -> &[T]
         ensures same { IsPermutation result.now self.now.row }
-        ensures ascends { Ascends (no_later T.cmp) self.now.row }
+        ensures ascends { Ascends T.le self.now.row }
     {
         &self.memory[..self.len]
     }
@@ -76,7 +75,7 @@ impl<'a, T: TotalOrder + Copy> BoundedHeap<'a, T> {
 
     // Puts an element into its place of the row; a full heap stays as it is.
     pub fn put(&mut self, x: T) -> Result<(), Full>
-        ensures { PutsIn (no_later T.cmp) x result self.old self.new }
+        ensures { PutsIn T.le x result self.old self.new }
     {
         put(self.memory, self.len, x)?;
         self.len += 1;
@@ -85,7 +84,7 @@ impl<'a, T: TotalOrder + Copy> BoundedHeap<'a, T> {
 
     // Takes the first of the row; none of an empty heap.
     pub fn take_first(&mut self) -> Option<T>
-        ensures { TakesOut (no_later T.cmp) result self.old self.new }
+        ensures { TakesOut T.le result self.old self.new }
     {
         let first = take_first(self.memory, self.len)?;
         self.len -= 1;

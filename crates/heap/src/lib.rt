@@ -24,3 +24,6 @@ pub fn rows_stand<T>()
 pub fn heaps_stand<T>()
     ensures least { FirstsAreLeast T }
 {}
+
+#[cfg(test)]
+mod tests;

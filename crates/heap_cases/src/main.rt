@@ -6,6 +6,7 @@
 #![tactic(auto)]
 
 ghost use Rattle.std.specs.Prelude.{◌≡◌, ◌<◌, true, length, IfOk};
+ghost use Rattle.heap_cases.specs.Numbers.{numbered_le};
 ghost use Rattle.std.proofs.Common.{rules};
 
 use heap::bounded::BoundedHeap;
@@ -19,7 +20,17 @@ struct Numbered {
 }
 
 impl TotalOrder for Numbered {
+    ghost le = { numbered_le };
+
+    ghost total = { Prim.search rules };
+
+    ghost transitive = { Prim.search rules };
+
     ghost antisymmetric = { Prim.search rules };
+
+    fn no_later(&self, other: &Numbered) -> bool {
+        self <= other
+    }
 }
 
 fn put_one(

@@ -1,27 +1,15 @@
 -- A put into the heap and a take from it, as the waiting list sees them.
-use Rattle.std.proofs.Common.{◌≡◌, ℕ, ◌+◌, Option, None, Some, Result, Ok, Err, List, [], length, drop, sym, ap, ◌∙◌, subst, Bool, arith}
-use Rattle.std.proofs.lemmas.Bool.Decides.{nat_tests}
+use Rattle.std.proofs.Common.{◌≡◌, ℕ, ◌+◌, Option, None, Some, Result, Ok, Err, List, [], length, drop, sym, ap, ◌∙◌, subst, arith}
 use Rattle.std.proofs.lemmas.List.Edits.{length-insert}
-use Rattle.std.specs.Ordering.{nat_cmp, ordering_then}
 use Rattle.std.specs.List.{insert}
 use Rattle.heap.specs.Bounded.{Holding, PutIn, PutsIn, TakesOut, capacity}
 use Rattle.heap.specs.Laws.{InsertsAtPlace}
-use Rattle.heap.specs.Rows.{Ascends, no_later, place}
+use Rattle.heap.specs.Rows.{Ascends, place}
 use Rattle.lists.specs.declared.node.Node.{Node}
 use Rattle.lists.specs.Lists.{HeapMoves}
 use Rattle.lists.specs.Moves.{Goes, Puts, Put, Take}
 use Rattle.lists.specs.Nodes.{node_le}
 use Rattle.lists.proofs.Stacked.{same}
-
--- the derived order of nodes, by which heaps of them go
-abbrev pub by_order : Node → Node → Bool
-by_order = no_later (λ (x y : Node). ordering_then (nat_cmp x.bound y.bound) (ordering_then (nat_cmp x.decided y.decided) (nat_cmp x.turned y.turned)))
-
-by_fields : (a b : Node) → by_order a b ≡ node_le a b
-by_fields a b = grind (arith, nat_tests)
-
-order_by_fields : by_order ≡ node_le
-order_by_fields = λ i a b. by_fields a b i
 
 module _ (at_place : InsertsAtPlace Node) (x : Node) (old new : Holding Node) (p : PutIn node_le x old new) where
   k : ℕ
@@ -44,24 +32,18 @@ module _ (at_place : InsertsAtPlace Node) (x : Node) (old new : Holding Node) (p
       let one_more : length (insert old.row k x) ≡ length old.row + 1 = length-insert old.row k x (at_place node_le x old.row).0 in
       (k, ((same new.row (insert old.row k x) new.free _ row (omega (arith, p.free, one_more)), p.ascends), ((at_place node_le x old.row).0, row)))
 
+-- what comes of a put
 module _ (at_place : InsertsAtPlace Node) {U F : Type 0} (x : Node) where
-  put_by : (r : Result U F) (old new : Holding Node) → PutsIn node_le x r old new → Puts (λ (h : Holding Node). h.row) HeapMoves capacity x r old new × (capacity new ≡ capacity old)
-  put_by (Ok u) old new p = ((omega (arith, p.free), put_ascending at_place x old new p), size_kept at_place x old new p)
-  put_by (Err f) old new (full, same) = ((omega (arith, full), (same, ap (λ (h : Holding Node). h.row) same)), ap capacity same)
+  pub placed : (r : Result U F) (old new : Holding Node) → PutsIn node_le x r old new → Puts (λ (h : Holding Node). h.row) HeapMoves capacity x r old new × (capacity new ≡ capacity old)
+  placed (Ok u) old new p = ((omega (arith, p.free), put_ascending at_place x old new p), size_kept at_place x old new p)
+  placed (Err f) old new (full, same) = ((omega (arith, full), (same, ap (λ (h : Holding Node). h.row) same)), ap capacity same)
 
-  -- what comes of a put by the derived order
-  pub placed : (r : Result U F) (old new : Holding Node) → PutsIn by_order x r old new → Puts (λ (h : Holding Node). h.row) HeapMoves capacity x r old new × (capacity new ≡ capacity old)
-  placed r old new p = put_by r old new (let P : (Node → Node → Bool) → Type 0 = λ le. PutsIn le x r old new in subst P order_by_fields p)
-
-take_ascending : (r : Option Node) (old new : Holding Node) → TakesOut node_le r old new → HeapMoves old Take new
-take_ascending None old new p =
+-- what comes of a take
+pub taken : (r : Option Node) (old new : Holding Node) → TakesOut node_le r old new → HeapMoves old Take new
+taken None old new p =
     let empty : new.row ≡ [] = ap (λ (h : Holding Node). h.row) p.1 ∙ p.0 in
     let left : drop 1 old.row ≡ [] = ap (drop 1) p.0 in
     (same new.row (drop 1 old.row) new.free _ (empty ∙ sym left) (omega (arith, ap (λ (h : Holding Node). h.free) p.1, ap (λ (l : List Node). length l) p.0, ap (λ (l : List Node). length l) left)), subst (Ascends node_le) (sym p.0) tt)
-take_ascending (Some x) old new p =
+taken (Some x) old new p =
     let left : drop 1 old.row ≡ new.row = ap (drop 1) p.row in
     (same new.row (drop 1 old.row) new.free _ (sym left) (omega (arith, p.free, ap (λ (l : List Node). length l) p.row, ap (λ (l : List Node). length l) left)), p.ascends)
-
--- a take by the derived order
-pub taken : (r : Option Node) (old new : Holding Node) → TakesOut by_order r old new → HeapMoves old Take new
-taken r old new p = let P : (Node → Node → Bool) → Type 0 = λ le. TakesOut le r old new in take_ascending r old new (subst P order_by_fields p)

@@ -1,5 +1,6 @@
 // What waits to be searched.
 ghost use Rattle.std.proofs.Common.{rules};
+ghost use Rattle.lists.specs.Nodes.{node_le};
 
 use heap::order::TotalOrder;
 
@@ -13,5 +14,15 @@ pub struct Node {
 }
 
 impl TotalOrder for Node {
+    ghost le = { node_le };
+
+    ghost total = { Prim.search rules };
+
+    ghost transitive = { Prim.search rules };
+
     ghost antisymmetric = { Prim.search rules };
+
+    fn no_later(&self, other: &Node) -> bool {
+        self <= other
+    }
 }

@@ -1,7 +1,6 @@
 use Rattle.std.proofs.Common.{arith}
-use Rattle.heap.specs.Rows.{no_later}
 use Rattle.heap.proofs.Holdings.{room_is}
 use Rattle.heap.proofs.bounded.BoundedHeap.clear.Goals as goal
 
 pub returns-clause-free : goal.returns-clause-free
-returns-clause-free g c = omega (arith, room_is (no_later g.T.Ord.cmp) c.self.inside.len c.self.inside.memory.now c.self.invariant.0 c.args.self.now c.self.view_is)
+returns-clause-free g c = omega (arith, room_is g.T.TotalOrder.le c.self.inside.len c.self.inside.memory.now c.self.invariant.0 c.args.self.now c.self.view_is)
