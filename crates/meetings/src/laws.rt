@@ -1,6 +1,7 @@
 // The laws of meetings, for the crates above. These functions do nothing: their contracts are the laws.
-ghost use Rattle.std.specs.Prelude.{List};
+ghost use Rattle.std.specs.Prelude.{◌≡◌, List};
 ghost use Rattle.files.specs.declared.plan.Stop.{Stop};
+ghost use Rattle.meetings.specs.declared.meet.TheConstants.{MOST_MEETINGS};
 ghost use Rattle.meetings.specs.Joined.{JoinedLaw};
 ghost use Rattle.meetings.specs.Laws.{MeetingsLaw, ClashLaw, ClearLaw, FirstLaw, FirstCollisionLaw};
 
@@ -20,4 +21,9 @@ pub fn meetings_stand()
 /// Where the entries of joined lists stand.
 pub fn joins_stand<T>()
     ensures { JoinedLaw T }
+{}
+
+/// The limit of meetings in numbers.
+pub fn limits_stand()
+    ensures meetings { MOST_MEETINGS ≡ 256 }
 {}

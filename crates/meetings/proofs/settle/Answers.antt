@@ -17,3 +17,12 @@ returns-in_err-first_clash-clause-collision c d is keeps =
     let all : c.as_slice-then-meetings.result.now ≡ stays ps = c.as_slice-then-meetings.ensures.value ∙ c.in_ok-stays.ensures in
     first_collision_law c.paths_stand.ensures.rise ps keeps d
     (subst (λ (x : Clash). FirstClash (stays ps) x) same (subst (λ (xs : List Stay). FirstClash xs found) all c.in_err-first_clash.ensures))
+
+pub returns-in_err-stays-clause-first : goal.returns-in_err-stays-clause-first
+returns-in_err-stays-clause-first c = c.meetings_stand.ensures.first (paths_of c.args.paths.now)
+
+pub returns-in_err-meetings-clause-first : goal.returns-in_err-meetings-clause-first
+returns-in_err-meetings-clause-first c = c.meetings_stand.ensures.first (paths_of c.args.paths.now)
+
+pub returns-clause-first : goal.returns-clause-first
+returns-clause-first c = c.meetings_stand.ensures.first (paths_of c.args.paths.now)
