@@ -13,7 +13,8 @@ use Rattle.redraw.specs.declared.redrawn.RedrawFault.TheVariants as fault
 use Rattle.redraw.specs.Redraws.{redrawn}
 use Rattle.refusals.specs.declared.Refusal.{Refusal}
 use Rattle.refusals.specs.declared.Refusal.TheVariants.{TooManyOpen, TooManyDrafts, NotInHand, Overtaken}
-use Rattle.run.specs.Calls.{from_floor, moved_on}
+use Rattle.floor.specs.Refused.{from_floor}
+use Rattle.run.specs.Calls.{moved_on}
 use Rattle.run.specs.State.{paths_on}
 use Rattle.dispatch.specs.declared.answers.Answer.{Answer}
 use Rattle.dispatch.specs.declared.answers.Answer.TheVariants.{Held, Moved, Drafted, Adopted, Dismissed}

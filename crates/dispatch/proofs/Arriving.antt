@@ -15,7 +15,8 @@ use Rattle.redraw.specs.Redraws.{redrawn}
 use Rattle.refusals.specs.declared.Refusal.{Refusal}
 use Rattle.refusals.specs.declared.Refusal.TheVariants.{Overtaken}
 use Rattle.floor.specs.declared.floor.calls.FloorFault.TheVariants.{NoShuttle}
-use Rattle.run.specs.Calls.{from_floor, hold_refusal, tick_refusal, ticked, moved_on, ordered}
+use Rattle.floor.specs.Refused.{from_floor}
+use Rattle.run.specs.Calls.{hold_refusal, tick_refusal, ticked, moved_on, ordered}
 use Rattle.run.specs.Guards.{left_on}
 use Rattle.run.specs.Laws.{RunLaws}
 use Rattle.run.specs.State.{paths_on, scene_now, count_on}

@@ -7,6 +7,7 @@ pub mod Next
 pub mod Open
 pub mod Passing
 pub mod Positions
+pub mod Refused
 pub mod Scenes
 pub mod Shuttles
 pub mod Times

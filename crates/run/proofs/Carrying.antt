@@ -10,7 +10,8 @@ use Rattle.floor.specs.Positions.{Position}
 use Rattle.floor.specs.Positions as position
 use Rattle.traffic.specs.Plans.{named}
 use Rattle.refusals.specs.declared.Refusal.{Refusal}
-use Rattle.run.specs.Calls.{from_floor, tick_refusal, ticked, moved_on}
+use Rattle.floor.specs.Refused.{from_floor}
+use Rattle.run.specs.Calls.{tick_refusal, ticked, moved_on}
 use Rattle.run.specs.Guards.{KeepsOn}
 use Rattle.run.specs.Laws.{RunLaws}
 use Rattle.run.specs.Sound.{RunsSoundly}

@@ -30,7 +30,8 @@ use Rattle.floor.specs.Laws.{FloorLaws}
 use Rattle.floor.specs.Scenes.{AllPlaced}
 use Rattle.floor.specs.Shuttles.{all_fresh, stop_in, hold_in, fresh}
 use Rattle.floor.specs.Words.{bit}
-use Rattle.run.specs.Calls.{from_floor, held, ticked, moved_on, ordered, fresh_on}
+use Rattle.floor.specs.Refused.{from_floor}
+use Rattle.run.specs.Calls.{held, ticked, moved_on, ordered, fresh_on}
 use Rattle.run.specs.Lawful.{LawfulFor}
 use Rattle.run.specs.Laws.{FreshIsSound, HoldsKeepSound, TicksKeepSound, LawfulOrdersKeepSound, ShuttlesAreAll, AgreedIsOnPaths}
 use Rattle.run.specs.Opens.{open_at}

@@ -7,9 +7,8 @@ use Rattle.plans.specs.declared.plan.Plan.{Plan}
 use Rattle.plans.specs.declared.plan.opening.PlanFault.{PlanFault}
 use Rattle.plans.specs.Opening.{Opens, OpensExactly, FirstsStand, GivesFirstCollision}
 use Rattle.traffic.specs.Plans.{named}
-use Rattle.floor.specs.declared.floor.calls.FloorFault.{FloorFault}
-use Rattle.floor.specs.declared.floor.calls.FloorFault.TheVariants as floor
 use Rattle.floor.specs.Calls.{judged, unless, fault_of_hold, after_hold, tick_fault}
+use Rattle.floor.specs.Refused.{from_floor}
 use Rattle.floor.specs.Scenes.{after_tick, word_of_moved}
 use Rattle.floor.specs.Shuttles.{all_fresh}
 use Rattle.refusals.specs.declared.Refusal.{Refusal}
@@ -25,12 +24,6 @@ on_plan judge (Some s) = judge s
 pub record Took {X : Type 0} (why : Option Refusal) (answer : X) (after : Option State) (r : Result X Refusal) (s t : Option State) : Type 0 where
   pub result : r ≡ judged why answer
   pub state : t ≡ unless why after s
-
--- why a run refuses what its floor does
-abbrev pub from_floor : FloorFault → Refusal
-from_floor floor.NoShuttle = refusal.NoShuttle
-from_floor floor.AtLastStop = refusal.AtLastStop
-from_floor floor.LongHold = refusal.LongHold
 
 -- a hold
 abbrev pub hold_refusal : ℕ → ℕ → State → Option Refusal

@@ -2,6 +2,7 @@
 ghost use Rattle.std.specs.Prelude.{◌≡◌, IfOk};
 ghost use Rattle.floor.specs.Calls.{judged, unless};
 ghost use Rattle.floor.specs.Passing.{orders_of};
+ghost use Rattle.floor.specs.Refused.{from_floor};
 ghost use Rattle.floor.specs.Positions.{fresh_on, held, hold_fault, moved_at, standing_fault, ticked};
 
 use super::Floor;
@@ -11,6 +12,7 @@ use crate::scene::Scene;
 use crate::table::{Shuttles, too_many};
 use meetings::laws::meetings_stand;
 use plans::plan::Plan;
+use refusals::Refusal;
 use std::alloc::{AllocError, Global};
 use traffic::steps_stand;
 
@@ -23,6 +25,19 @@ pub enum FloorFault {
     NoShuttle,
     AtLastStop,
     LongHold,
+}
+
+// The conversion is written out, as those of the other faults are.
+impl From<FloorFault> for Refusal {
+    ghost from_gives = { λ e r. r ≡ from_floor e };
+
+    fn from(fault: FloorFault) -> Refusal {
+        match fault {
+            FloorFault::NoShuttle => Refusal::NoShuttle,
+            FloorFault::AtLastStop => Refusal::AtLastStop,
+            FloorFault::LongHold => Refusal::LongHold,
+        }
+    }
 }
 
 impl Floor {

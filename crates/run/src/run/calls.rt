@@ -2,14 +2,13 @@
 ghost use Rattle.std.specs.Prelude.{◌≡◌, Some, None};
 ghost use Rattle.plans.specs.Opening.{RefusedByNumber};
 ghost use Rattle.refusals.specs.Refusals.{refusal};
-ghost use Rattle.run.specs.Calls.{from_floor, TakesHold, TakesTick, Opened, Drives};
+ghost use Rattle.run.specs.Calls.{TakesHold, TakesTick, Opened, Drives};
 ghost use Rattle.run.specs.Guards.{Keeps, KeepsOn};
 ghost use Rattle.run.specs.Lawful.{PutInForce};
 
 use super::{Driven, Run};
 use crate::laws::runs_stand;
 use floor::floor::Floor;
-use floor::floor::calls::FloorFault;
 use floor::passing::PassingOrders;
 use meetings::meet::First;
 use orders::waits::plan_firsts;
@@ -20,17 +19,6 @@ use std::alloc::Global;
 /// Passing orders that are not lawful.
 #[derive(Clone, Copy, PartialEq, Eq, Debug)]
 pub struct Unlawful;
-
-// Why a run refuses what its floor does. Both types are of other crates, so it is no `From`.
-fn refused(fault: FloorFault) -> Refusal
-    ensures { result ≡ from_floor fault }
-{
-    match fault {
-        FloorFault::NoShuttle => Refusal::NoShuttle,
-        FloorFault::AtLastStop => Refusal::AtLastStop,
-        FloorFault::LongHold => Refusal::LongHold,
-    }
-}
 
 impl Driven {
     // Every shuttle at stop 0, no holds, and the plan's orders.
@@ -53,7 +41,7 @@ impl Driven {
         ensures { TakesHold shuttle ticks result (Some self.old) (Some self.new) }
     {
         runs_stand();
-        self.floor.hold(shuttle, ticks).map_err(refused)
+        self.floor.hold(shuttle, ticks).map_err(Refusal::from)
     }
 
     fn tick(&mut self, standing: u32) -> Result<u32, Refusal>
@@ -62,7 +50,7 @@ impl Driven {
     {
         runs_stand();
         let orders = PassingOrders::Named(self.firsts.as_slice());
-        self.floor.tick(orders, standing).map_err(refused)
+        self.floor.tick(orders, standing).map_err(Refusal::from)
     }
 
     // Puts lawful orders in force.

@@ -3,7 +3,8 @@ use Rattle.meetings.specs.declared.meet.First.{First}
 use Rattle.traffic.specs.Plans.{named}
 use Rattle.floor.specs.Calls.{judged, unless, tick_fault}
 use Rattle.floor.specs.Positions.{moved_at, ticked}
-use Rattle.run.specs.Calls.{from_floor, tick_refusal, moved_on}
+use Rattle.floor.specs.Refused.{from_floor}
+use Rattle.run.specs.Calls.{tick_refusal, moved_on}
 use Rattle.run.specs.Calls as calls
 use Rattle.run.specs.Guards.{KeepsOn}
 use Rattle.run.specs.State.{State, paths_on}
