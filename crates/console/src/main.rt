@@ -5,13 +5,19 @@ ghost use Rattle.desk.specs.Replies.{Shown};
 
 use desk::{carry_out, refused};
 use dispatch::dispatcher::Dispatcher;
-use lines::replies::Reply;
+use lines::replies::{Reply, ReplyLine};
 use sheet::sheet::SHEET_ROOM;
 use std::fs;
 use std::io::{self, BufRead, BufReader, Write};
 
 // The number of the console's run.
 const RUN: u32 = 1;
+
+fn print_line(rt: &HostRuntime, reply: Reply) -> anyhow::Result<()> {
+    let line = ReplyLine { reply };
+    print!(rt; "{line}")?;
+    Ok(())
+}
 
 // A sheet is printed above its reply.
 fn print_reply(rt: &HostRuntime, reply: Reply, sheet: &[u8]) -> anyhow::Result<()>
@@ -20,16 +26,14 @@ fn print_reply(rt: &HostRuntime, reply: Reply, sheet: &[u8]) -> anyhow::Result<(
     if let Reply::Sheet { bytes } = reply {
         io::writer(rt).write_all(&sheet[..bytes])?;
     }
-    println!(rt; "{reply}")?;
-    Ok(())
+    print_line(rt, reply)
 }
 
 fn open(rt: &HostRuntime, dispatcher: &mut Dispatcher) -> anyhow::Result<()> {
     let heap = rt.alloc();
     let bytes = fs::read(rt, "plan.bin").unwrap_or_else(|_| Vec::new(heap));
     if let Err(why) = dispatcher.open(heap, RUN, bytes.as_slice()) {
-        let reply = refused(why);
-        println!(rt; "{reply}")?;
+        print_line(rt, refused(why))?;
     }
     Ok(())
 }

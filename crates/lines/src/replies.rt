@@ -32,9 +32,24 @@ impl fmt::Display for Reply {
     }
 }
 
+/// The line of a reply, with its end.
+#[derive(Clone, Copy, PartialEq, Eq, Debug)]
+pub struct ReplyLine {
+    pub reply: Reply,
+}
+
+impl fmt::Display for ReplyLine {
+    ghost output = { λ line. Some (reply_text line.reply) };
+
+    fn fmt<W: fmt::Write>(&self, f: &mut fmt::Formatter<W>) -> fmt::Result {
+        writeln!(f, "{}", self.reply)
+    }
+}
+
 // The line of a reply.
 pub fn reply_line(heap: Global, reply: Reply) -> Result<String, AllocError>
     ensures { IfOk result (λ t. string_bytes t ≡ reply_text reply) }
 {
-    format!(in heap; "{reply}\n")
+    let line = ReplyLine { reply };
+    format!(in heap; "{line}")
 }
