@@ -8,15 +8,43 @@
 use meetings::meet::First;
 use orders::read::read_orders;
 use orders::waits::plan_firsts;
-use orders::write::{ROOM_FOR_ORDERS, write_orders};
+use orders::write::write_orders;
 use plans::plan::Plan;
 use plans::plan::opening::read_plan;
 use refusals::Refusal;
-use report::{answer_text, refusal_line};
+use report::answer_text;
+use std::alloc::{AllocError, Global};
 
+// The longest buffer that is shown.
+const LONGEST_BUFFER: usize = 50000;
+
+// What a digit is worth; any other character counts as 0.
+fn digit(c: u8) -> u8 {
+    match c {
+        b'0'..=b'9' => c - b'0',
+        b'a'..=b'f' => c - b'a' + 10,
+        _ => 0,
+    }
+}
+
+// The bytes that pairs of digits write; a last digit without a second is passed over. It is not the kit's `hex`, which refuses what is no digit, and reads capital letters.
+fn unhex(heap: Global, digits: &[u8]) -> Result<Vec<u8>, AllocError> {
+    let mut bytes = Vec::new(heap);
+    for pair in digits.chunks(2) {
+        let [high, low] = pair else {
+            break;
+        };
+        bytes.push((digit(*high) << 4) | digit(*low))?;
+    }
+    Ok(bytes)
+}
+
+// Digit by digit, with no text made first.
 fn print_hex(rt: &HostRuntime, bytes: &[u8]) -> anyhow::Result<()> {
-    let digits = hex::encode(rt.alloc(), bytes)?;
-    println!(rt; "{digits}")?;
+    for byte in bytes {
+        print!(rt; "{byte:02x}")?;
+    }
+    println!(rt; "")?;
     Ok(())
 }
 
@@ -26,26 +54,27 @@ fn print_written(rt: &HostRuntime, plan: &Plan, out: &mut [u8]) -> anyhow::Resul
     match write_orders(plan, firsts.as_slice(), out) {
         Ok(len) => print!(rt; "{len} bytes ")?,
         Err(fault) => {
-            let line = refusal_line(rt.alloc(), Refusal::from(fault))?;
-            let words = line.as_str().trim_end();
-            print!(rt; "{words} ")?
+            if let Some(number) = Refusal::from(fault).number() {
+                print!(rt; "no {number} ")?;
+            }
         }
     }
     print_hex(rt, out)
 }
 
 fn print_orders(rt: &HostRuntime, plan: &Plan, size: usize) -> anyhow::Result<()> {
-    if size > ROOM_FOR_ORDERS {
+    // An array, so that no memory is wanted for it.
+    let mut buffer = [170u8; LONGEST_BUFFER];
+    if size > buffer.len() {
         return Ok(());
     }
-    let mut buffer = vec![in rt.alloc(); 170u8; size]?;
-    print_written(rt, plan, buffer.as_mut_slice())
+    print_written(rt, plan, &mut buffer[..size])
 }
 
 // The words of orders are this program's own.
 fn print_firsts(rt: &HostRuntime, plan: &Plan, digits: &[u8]) -> anyhow::Result<()> {
     let heap = rt.alloc();
-    let bytes = hex::decode(heap, digits)?;
+    let bytes = unhex(heap, digits)?;
     match read_orders(heap, plan, bytes.as_slice()) {
         Ok(firsts) => {
             print!(rt; "first")?;
@@ -66,7 +95,7 @@ fn print_firsts(rt: &HostRuntime, plan: &Plan, digits: &[u8]) -> anyhow::Result<
 // A plan file; answers the plan, if it is taken.
 fn print_plan(rt: &HostRuntime, digits: &[u8]) -> anyhow::Result<Option<Plan>> {
     let heap = rt.alloc();
-    let bytes = hex::decode(heap, digits)?;
+    let bytes = unhex(heap, digits)?;
     let answer = read_plan(heap, bytes.as_slice());
     let text = answer_text(heap, &answer)?;
     print!(rt; "{text}")?;

@@ -12,10 +12,10 @@ use std::fs;
 fn save_orders(rt: &HostRuntime, plan: &Plan) -> anyhow::Result<()> {
     let heap = rt.alloc();
     let firsts = plan_firsts(heap, plan)?;
-    let mut buffer = vec![in heap; 0u8; ROOM_FOR_ORDERS]?;
-    let len = write_orders(plan, firsts.as_slice(), buffer.as_mut_slice()).unwrap();
-    buffer.truncate(len);
-    fs::write(rt, "orders.bin", buffer.as_slice())?;
+    // An array, so that want of memory cannot keep a plan's orders from being written.
+    let mut buffer = [0u8; ROOM_FOR_ORDERS];
+    let len = write_orders(plan, firsts.as_slice(), &mut buffer).unwrap();
+    fs::write(rt, "orders.bin", &buffer[..len])?;
     let line = orders_line(heap, plan.meetings().len(), len)?;
     print!(rt; "{line}")?;
     Ok(())

@@ -17,8 +17,9 @@
 #![tactic(auto)]
 
 use anyhow::anyhow;
+use arrayvec::ArrayVec;
 use floor::timetable::Timetable;
-use meetings::meet::First;
+use meetings::meet::{First, MOST_MEETINGS};
 use meetings::stays::At;
 use refusals::Refusal;
 use run::run::Run;
@@ -34,6 +35,27 @@ struct Case {
     run: Run,
     file: Vec<u8>,
     timetable: Timetable,
+}
+
+// What a digit is worth; any other character counts as 0.
+fn digit(c: u8) -> u8 {
+    match c {
+        b'0'..=b'9' => c - b'0',
+        b'a'..=b'f' => c - b'a' + 10,
+        _ => 0,
+    }
+}
+
+// The bytes that pairs of digits write; a last digit without a second is passed over. It is not the kit's `hex`, which refuses what is no digit, and reads capital letters.
+fn unhex(heap: Global, digits: &[u8]) -> Result<Vec<u8>, AllocError> {
+    let mut bytes = Vec::new(heap);
+    for pair in digits.chunks(2) {
+        let [high, low] = pair else {
+            break;
+        };
+        bytes.push((digit(*high) << 4) | digit(*low))?;
+    }
+    Ok(bytes)
 }
 
 // The letters of orders are this program's own, so they stand here and not at `First`.
@@ -52,9 +74,15 @@ fn letter_of(first: First) -> char {
     }
 }
 
-// Orders by their letters.
-fn read_orders(heap: Global, letters: &[u8]) -> Result<Vec<Option<First>>, AllocError> {
-    letters.iter().map(|letter| first_of(*letter)).collect(heap)
+// Orders by their letters; those past the most meetings are not kept.
+fn read_orders(letters: &[u8]) -> ArrayVec<Option<First>, MOST_MEETINGS> {
+    let mut orders = ArrayVec::new();
+    for letter in letters {
+        if orders.try_push(first_of(*letter)).is_err() {
+            break;
+        }
+    }
+    orders
 }
 
 // Orders that leave no meeting out, by their letters.
@@ -106,7 +134,7 @@ fn print_fault(rt: &HostRuntime, letter: &str, why: EntryFault) -> anyhow::Resul
 
 fn open(rt: &HostRuntime, case: &mut Case, digits: &str) -> anyhow::Result<()> {
     let heap = rt.alloc();
-    let bytes = hex::decode(heap, digits)?;
+    let bytes = unhex(heap, digits.as_bytes())?;
     match case.run.open(heap, RUN, bytes.as_slice()) {
         Ok(_) => {
             case.file = bytes;
@@ -175,7 +203,7 @@ fn print_arrivals(rt: &HostRuntime, letter: &str, arrivals: &[u32]) -> anyhow::R
 }
 
 fn arrivals(rt: &HostRuntime, case: &mut Case, letters: &[u8]) -> anyhow::Result<()> {
-    let orders = read_orders(rt.alloc(), letters)?;
+    let orders = read_orders(letters);
     match case.run.entry_ticks(orders.as_slice(), &mut case.timetable) {
         Ok(()) => print_arrivals(rt, "A", case.timetable.arrivals()),
         Err(why) => print_fault(rt, "A", why),
@@ -215,7 +243,7 @@ fn print_ticks(rt: &HostRuntime, case: &Case) -> anyhow::Result<()> {
 }
 
 fn entry_ticks(rt: &HostRuntime, case: &mut Case, letters: &[u8]) -> anyhow::Result<()> {
-    let orders = read_orders(rt.alloc(), letters)?;
+    let orders = read_orders(letters);
     match case.run.entry_ticks(orders.as_slice(), &mut case.timetable) {
         Ok(()) => print_ticks(rt, case),
         Err(why) => print_fault(rt, "E", why),
