@@ -27,9 +27,10 @@ fn digit(c: u8) -> u8 {
     }
 }
 
-// The bytes that pairs of digits write; a last digit without a second is passed over. It is not the kit's `hex`, which refuses what is no digit, and reads capital letters.
-fn unhex(heap: Global, digits: &[u8]) -> Result<Vec<u8>, AllocError> {
-    let mut bytes = Vec::new(heap);
+// The bytes that pairs of digits write; a last digit without a second is passed over. It is not the
+// kit's `hex`, which refuses what is no digit, and reads capital letters.
+fn unhex(alloc: Global, digits: &[u8]) -> Result<Vec<u8>, AllocError> {
+    let mut bytes = Vec::new(alloc);
     for pair in digits.chunks(2) {
         let [high, low] = pair else {
             break;

@@ -12,7 +12,7 @@ use std::fs;
 fn save_orders(rt: &HostRuntime, plan: &Plan) -> anyhow::Result<()> {
     let heap = rt.alloc();
     let firsts = plan_firsts(heap, plan)?;
-    // An array, so that want of memory cannot keep a plan's orders from being written.
+    // An array, so that no memory is wanted for it.
     let mut buffer = [0u8; ROOM_FOR_ORDERS];
     let len = write_orders(plan, firsts.as_slice(), &mut buffer).unwrap();
     fs::write(rt, "orders.bin", &buffer[..len])?;
